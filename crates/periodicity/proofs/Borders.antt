@@ -32,8 +32,8 @@ module _ (x y : ℕ → ℕ) (e l : ℕ) (room : l ≤ e) (fit : Fit x y e l) wh
         let rr = repeats-mod x l s q sum (shorter-repeats s (omega arith) shorter) (shorter-repeats q inside next) in
         let small = mod-below s q apart in
         elim (cases-eq (s % q) 0) [
-          inl is ↦ is
-        | inr some ↦ absurd (none (s % q) (omega arith) small (repeats-shorter (s % q) (omega arith) rr))
+          | inl is ↦ is
+          | inr some ↦ absurd (none (s % q) (omega arith) small (repeats-shorter (s % q) (omega arith) rr))
         ]
 
     -- and each multiple of it fits

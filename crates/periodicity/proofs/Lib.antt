@@ -1,8 +1,12 @@
+pub mod Agreements
 pub mod Ranges
 pub mod Repeats
 pub mod Matches
 pub mod Borders
 pub mod Sameness
+pub mod Extensions
 pub mod PlacesTold
 pub mod OverlapsTold
 pub mod RecordsTold
+pub mod RecordsRead
+pub mod Proved

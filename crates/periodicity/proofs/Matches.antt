@@ -24,15 +24,15 @@ module _ (x y : ℕ → ℕ) (m : ℕ) where
     between : (r : ℕ) → r < q → q + r < m → Repeats y m r → Match x y m (i + r)
     between r below fits rr k h =
         elim (cases-lt (k + r) m) [
-          inl on ↦
-            let e : (i + r) + k ≡ i + (k + r) = omega arith in
-            moved x ((i + r) + k) (i + (k + r)) e ∙ first (k + r) on ∙ sym (rr k on)
-        | inr off ↦
-            let rq = distance-repeats i q first second in
-            let e : (i + r) + k ≡ (i + q) + ((k - q) + r) = omega arith in
-            let back : (k - q) + q ≡ k = omega arith in
-            moved x ((i + r) + k) ((i + q) + ((k - q) + r)) e ∙ second ((k - q) + r) (omega arith)
-            ∙ sym (rr (k - q) (omega arith)) ∙ rq (k - q) (omega arith) ∙ moved y ((k - q) + q) k back
+          | inl on ↦
+              let e : (i + r) + k ≡ i + (k + r) = omega arith in
+              moved x ((i + r) + k) (i + (k + r)) e ∙ first (k + r) on ∙ sym (rr k on)
+          | inr off ↦
+              let rq = distance-repeats i q first second in
+              let e : (i + r) + k ≡ (i + q) + ((k - q) + r) = omega arith in
+              let back : (k - q) + q ≡ k = omega arith in
+              moved x ((i + r) + k) ((i + q) + ((k - q) + r)) e ∙ second ((k - q) + r) (omega arith)
+              ∙ sym (rr (k - q) (omega arith)) ∙ rq (k - q) (omega arith) ∙ moved y ((k - q) + q) k back
         ]
 
     -- a later place is a multiple of the first distance away, when no place lies between the first two
@@ -45,10 +45,10 @@ module _ (x y : ℕ → ℕ) (m : ℕ) where
         let small = mod-below (s - q) q apart in
         let parts = div-add-mod' (s - q) q in
         let zero-rest : (s - q) % q ≡ 0 =
-            elim (cases-eq ((s - q) % q) 0) [
-              inl e ↦ e
-            | inr some ↦ absurd (none ((s - q) % q) (omega arith) small (between ((s - q) % q) small (omega arith) rr))
-            ] in
+        elim (cases-eq ((s - q) % q) 0) [
+          | inl e ↦ e
+          | inr some ↦ absurd (none ((s - q) % q) (omega arith) small (between ((s - q) % q) small (omega arith) rr))
+        ] in
         whole s ((s - q) / q) (omega arith)
       where
         whole : (n d : ℕ) → n ≡ q + d * q → n % q ≡ 0
@@ -61,28 +61,28 @@ module _ (x y : ℕ → ℕ) (m : ℕ) where
     repeats-through j near last k h =
         let rq = distance-repeats i q first second in
         elim (cases-lt (k + q) m) [
-          inl on ↦
-            let e : i + (k + q) ≡ (i + q) + k = omega arith in
-            first k (omega arith) ∙ rq k on ∙ sym (first (k + q) on) ∙ moved x (i + (k + q)) ((i + q) + k) e
-        | inr off ↦
-            let e : (i + q) + k ≡ (i + j * q) + ((k + q) - j * q) = omega arith in
-            let right = moved x ((i + q) + k) ((i + j * q) + ((k + q) - j * q)) e ∙ last ((k + q) - j * q) (omega arith) in
-            left j near last k h off ∙ sym right
+          | inl on ↦
+              let e : i + (k + q) ≡ (i + q) + k = omega arith in
+              first k (omega arith) ∙ rq k on ∙ sym (first (k + q) on) ∙ moved x (i + (k + q)) ((i + q) + k) e
+          | inr off ↦
+              let e : (i + q) + k ≡ (i + j * q) + ((k + q) - j * q) = omega arith in
+              let right = moved x ((i + q) + k) ((i + j * q) + ((k + q) - j * q)) e ∙ last ((k + q) - j * q) (omega arith) in
+              left j near last k h off ∙ sym right
         ]
       where
         left : (j : ℕ) → j * q < m → Match x y m (i + j * q) → (k : ℕ) → k + q < j * q + m → m ≤ k + q → x (i + k) ≡ y ((k + q) - j * q)
         left zero near last k h off = absurd (omega arith)
         left (suc j) near last k h off =
             elim (cases-lt k m) [
-              inl in-first ↦
-                let times = repeats-times y m j q (distance-repeats i q first second) in
-                let e : ((k + q) - suc j * q) + j * q ≡ k = omega arith in
-                first k in-first ∙ sym (times ((k + q) - suc j * q) (omega arith) ∙ moved y (((k + q) - suc j * q) + j * q) k e)
-            | inr past ↦
-                let e : i + k ≡ (i + suc j * q) + (k - suc j * q) = omega arith in
-                let on : (k - suc j * q) + q ≡ (k + q) - suc j * q = omega arith in
-                moved x (i + k) ((i + suc j * q) + (k - suc j * q)) e ∙ last (k - suc j * q) (omega arith)
-                ∙ distance-repeats i q first second (k - suc j * q) (omega arith) ∙ moved y ((k - suc j * q) + q) ((k + q) - suc j * q) on
+              | inl in-first ↦
+                  let times = repeats-times y m j q (distance-repeats i q first second) in
+                  let e : ((k + q) - suc j * q) + j * q ≡ k = omega arith in
+                  first k in-first ∙ sym (times ((k + q) - suc j * q) (omega arith) ∙ moved y (((k + q) - suc j * q) + j * q) k e)
+              | inr past ↦
+                  let e : i + k ≡ (i + suc j * q) + (k - suc j * q) = omega arith in
+                  let on : (k - suc j * q) + q ≡ (k + q) - suc j * q = omega arith in
+                  moved x (i + k) ((i + suc j * q) + (k - suc j * q)) e ∙ last (k - suc j * q) (omega arith)
+                  ∙ distance-repeats i q first second (k - suc j * q) (omega arith) ∙ moved y ((k - suc j * q) + q) ((k + q) - suc j * q) on
             ]
 
     -- and where it repeats so far, each multiple of the distance is a place

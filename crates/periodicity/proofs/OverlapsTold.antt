@@ -5,13 +5,16 @@ use mathlib.Core.List.{List}
 use mathlib.Core.Logic.{_⊎_, inl, inr}
 use Prim.Native.Nat.{ℕ, zero, suc, _+_, _-_, _*_, _/_, _%_, _≤_, _<_}
 use native.Mathlib.Omega.{arith}
-use native.Mathlib.Nat.{mul-le-mul-right}
 use lib.ListN.{length}
 use Rattle.std.proofs.shelf.Bits.{div-add-mod'}
 use Rattle.std.proofs.shelf.Tests.{both-ways, cases-lt, cases-eq}
+use Rattle.std.specs.declared.option.Option.{Option}
+use Rattle.std.specs.declared.option.Option.the-variants.{None, Some}
+use Rattle.periodicity.specs.declared.Progression.{Progression}
 use Rattle.periodicity.specs.Overlaps.{is-overlap}
-use Rattle.periodicity.specs.Ranges.{None-from, Stepwise}
-use Rattle.periodicity.proofs.Ranges.{multiple-within, counted-within}
+use Rattle.periodicity.specs.Progressions.{Proper, triple}
+use Rattle.periodicity.specs.Ranges.{None-from, Greatest-from, Stepwise, Tells}
+use Rattle.periodicity.proofs.Ranges.{multiple-within, counted-within, greatest-in, tells-one}
 use Rattle.periodicity.proofs.Borders.{Fit, shorter-divides, multiple-fits}
 use Rattle.periodicity.proofs.Sameness.{at, room-from-overlap, fit-from-overlap, overlap-from-fit}
 
@@ -84,15 +87,15 @@ module _ (first second : List ℕ) (d l q : ℕ) (apart : 0 < q) (low : d + q �
   unfolding times
   only-multiples n lo hi pass =
       elim (cases-lt l n) [
-        inl more ↦ absurd (both-ways (is-overlap first second n) (above n (omega arith) hi) pass)
-      | inr not-more ↦
-          let e₀ : l - (l - n) ≡ n = omega arith in
-          let whole = shorter-counted (l - n) (omega arith) (subst (λ k. is-overlap first second k ≡ true) (sym e₀) pass) in
-          let few = counted-within ((l - n) / q) q (l - d) apart (omega arith) in
-          let at-j = from-least (times - (l - n) / q) (omega arith) in
-          let back : times - (times - (l - n) / q) ≡ (l - n) / q = omega arith in
-          let same : (times - (times - (l - n) / q)) * q ≡ ((l - n) / q) * q = ap (λ k. k * q) back in
-          (times - (l - n) / q, omega arith, omega arith)
+        | inl more ↦ absurd (both-ways (is-overlap first second n) (above n (omega arith) hi) pass)
+        | inr not-more ↦
+            let e₀ : l - (l - n) ≡ n = omega arith in
+            let whole = shorter-counted (l - n) (omega arith) (subst (λ k. is-overlap first second k ≡ true) (sym e₀) pass) in
+            let few = counted-within ((l - n) / q) q (l - d) apart (omega arith) in
+            let at-j = from-least (times - (l - n) / q) (omega arith) in
+            let back : times - (times - (l - n) / q) ≡ (l - n) / q = omega arith in
+            let same : (times - (times - (l - n) / q)) * q ≡ ((l - n) / q) * q = ap (λ k. k * q) back in
+            (times - (l - n) / q, omega arith, omega arith)
       ]
 
   pub overlaps-stepwise : Stepwise (is-overlap first second) d (d + d) (l - ((l - d) / q) * q) q (1 + (l - d) / q)
@@ -102,5 +105,35 @@ module _ (first second : List ℕ) (d l q : ℕ) (apart : 0 < q) (low : d + q �
         moves = λ h. apart;
         passes = passes-all;
         within = λ j h. let at-j = from-least j h in (omega arith, omega arith);
-        only = only-multiples
+        only = only-multiples;
       }
+
+-- what the greatest two lengths tell
+module _ (first second : List ℕ) (d l n : ℕ) where
+  pub overlaps-told : Greatest-from (is-overlap first second) d (d + d) (Some l) → Greatest-from (is-overlap first second) d l (Some n)
+      → Tells (is-overlap first second) d (d + d) (Some (triple (l - ((l - d) / (l - n)) * (l - n)) (l - n) (1 + (l - d) / (l - n))))
+  overlaps-told longest next =
+      let q = l - n in
+      let some : 0 < q = omega (arith, next .1) in
+      let is : l - q ≡ n = omega (arith, next .1) in
+      let at-next = subst (λ k. is-overlap first second k ≡ true) (sym is) (next .2) in
+      let between = subst (λ k. None-from (is-overlap first second) (k + 1) l) (sym is) (next .3) in
+      let steps = overlaps-stepwise first second d l q some (omega (arith, next .0, next .1)) (longest .1) (longest .2) at-next (longest .3) between in
+      let two : 1 < 1 + (l - d) / q = counted-within 1 q (l - d) some (omega (arith, next .0, next .1)) in
+      (record { some = omega arith; alone = λ one. absurd (omega arith); still = λ none. absurd (omega arith) }, steps)
+
+-- the overlaps of any two lists, for any d, are told by some answer
+pub overlaps-tell : (first second : List ℕ) (d : ℕ) → (answer : Option Progression) × Tells (is-overlap first second) d (d + d) answer
+overlaps-tell first second d = outer (greatest-in (is-overlap first second) d d)
+  where
+    inner : (l : ℕ) → Greatest-from (is-overlap first second) d (d + d) (Some l) → (r : Option ℕ) × Greatest-from (is-overlap first second) d l r
+        → (answer : Option Progression) × Tells (is-overlap first second) d (d + d) answer
+    inner l longest (None, none) = (Some (triple l 0 1), tells-one (is-overlap first second) d (d + d) l longest none)
+    inner l longest (Some n, next) = (Some (triple (l - ((l - d) / (l - n)) * (l - n)) (l - n) (1 + (l - d) / (l - n))), overlaps-told first second d l n longest next)
+
+    outer : (r : Option ℕ) × Greatest-from (is-overlap first second) d (d + d) r → (answer : Option Progression) × Tells (is-overlap first second) d (d + d) answer
+    outer (None, none) = (None, none)
+    outer (Some l, longest) =
+        let back : d + (l - d) ≡ l = omega (arith, longest .0) in
+        let found = greatest-in (is-overlap first second) d (l - d) in
+        inner l longest (found .0, subst (λ b. Greatest-from (is-overlap first second) d b (found .0)) back (found .1))

@@ -26,7 +26,7 @@ module _ (test : ℕ → Bool) where
         moves = λ h. s .moves (omega arith);
         passes = λ j h. let here = s .passes (suc j) (omega arith) in subst (λ k. test k ≡ true) (let eq : x + suc j * q ≡ x + q + j * q = omega arith in eq) here;
         within = λ j h. let w = s .within (suc j) (omega arith) in let pos = s .moves (omega arith) in (omega arith, omega arith);
-        only = λ i lo hi t. later i lo (s .only i (omega arith) (omega arith) t)
+        only = λ i lo hi t. later i lo (s .only i (omega arith) (omega arith) t);
       }
     where
       later : (i : ℕ) → a + 1 ≤ i → (j : ℕ) × (j < suc n) × (i ≡ x + j * q) → (j : ℕ) × (j < n) × (i ≡ x + q + j * q)
@@ -40,7 +40,7 @@ module _ (test : ℕ → Bool) where
         moves = s .moves;
         passes = s .passes;
         within = λ j h. let w = s .within j h in let off = apart j h in (omega arith, omega arith);
-        only = λ i lo hi t. s .only i (omega arith) (omega arith) t
+        only = λ i lo hi t. s .only i (omega arith) (omega arith) t;
       }
     where
       apart : (j : ℕ) → j < n → a ≡ x + j * q → ⊥
@@ -59,15 +59,15 @@ module _ (test : ℕ → Bool) where
   kept-stepwise a zero x q (suc n) s = let w = s .within 0 (omega arith) in absurd (omega arith)
   kept-stepwise a (suc c) x q zero s =
       elim (cases-bool (test a)) [
-        inl pass ↦ let at = starts a c x q zero pass s in absurd (omega arith)
-      | inr fail ↦ rw fail (kept-stepwise (a + 1) c x q zero (step-no a c x q zero fail s))
+        | inl pass ↦ let at = starts a c x q zero pass s in absurd (omega arith)
+        | inr fail ↦ rw fail (kept-stepwise (a + 1) c x q zero (step-no a c x q zero fail s))
       ]
   kept-stepwise a (suc c) x q (suc n) s =
       elim (cases-bool (test a)) [
-        inl pass ↦
-          let at = starts a c x q (suc n) pass s in
-          rw pass (ap (λ k. k ∷ kept-by test (counting (a + 1) c)) (at .0) ∙ ap (λ ks. x ∷ ks) (kept-stepwise (a + 1) c (x + q) q n (step-yes a c x q n (at .0) s)))
-      | inr fail ↦ rw fail (kept-stepwise (a + 1) c x q (suc n) (step-no a c x q (suc n) fail s))
+        | inl pass ↦
+            let at = starts a c x q (suc n) pass s in
+            rw pass (ap (λ k. k ∷ kept-by test (counting (a + 1) c)) (at .0) ∙ ap (λ ks. x ∷ ks) (kept-stepwise (a + 1) c (x + q) q n (step-yes a c x q n (at .0) s)))
+        | inr fail ↦ rw fail (kept-stepwise (a + 1) c x q (suc n) (step-no a c x q (suc n) fail s))
       ]
 
   -- nothing passes
@@ -110,13 +110,14 @@ module _ (test : ℕ → Bool) where
   least-in a zero = (None, λ i lo hi. absurd (omega arith))
   least-in a (suc c) =
       elim (cases-bool (test a)) [
-        inl pass ↦ (Some a, (omega arith, omega arith, pass, λ i lo hi. absurd (omega arith)))
-      | inr fail ↦ later (least-in (a + 1) c) fail
+        | inl pass ↦ (Some a, (omega arith, omega arith, pass, λ i lo hi. absurd (omega arith)))
+        | inr fail ↦ later (least-in (a + 1) c) fail
       ]
     where
       below : (b : ℕ) → test a ≡ false → None-from test (a + 1) b → None-from test a b
       below b fail none i lo hi =
           elim (cases-eq a i) [ inl e ↦ subst (λ k. test k ≡ false) e fail | inr off ↦ none i (omega arith) hi ]
+
       later : (r : Option ℕ) × Least-from test (a + 1) (a + 1 + c) r → test a ≡ false → (r : Option ℕ) × Least-from test a (a + suc c) r
       later (None, none) fail = (None, λ i lo hi. below (a + 1 + c) fail none i lo (omega arith))
       later (Some x, h) fail = (Some x, (omega arith, omega arith, h .2, below x fail (h .3)))
@@ -129,8 +130,8 @@ module _ (test : ℕ → Bool) where
       later (Some x, h) = (Some x, (omega arith, omega arith, h .2, λ i lo hi. h .3 i lo (omega arith)))
       later (None, none) =
           elim (cases-bool (test a)) [
-            inl pass ↦ (Some a, (omega arith, omega arith, pass, λ i lo hi. none i lo (omega arith)))
-          | inr fail ↦ (None, λ i lo hi. elim (cases-eq a i) [ inl e ↦ subst (λ k. test k ≡ false) e fail | inr off ↦ none i (omega arith) (omega arith) ])
+            | inl pass ↦ (Some a, (omega arith, omega arith, pass, λ i lo hi. none i lo (omega arith)))
+            | inr fail ↦ (None, λ i lo hi. elim (cases-eq a i) [ inl e ↦ subst (λ k. test k ≡ false) e fail | inr off ↦ none i (omega arith) (omega arith) ])
           ]
 
 -- one number alone passes
@@ -140,15 +141,15 @@ stepwise-one test a b x lo hi pass before after =
       moves = λ h. absurd (omega arith);
       passes = λ j h. let e : x ≡ x + j * 0 = omega arith in subst (λ i. test i ≡ true) e pass;
       within = λ j h. (omega arith, omega arith);
-      only = λ i low high t. (0, omega arith, alone i low high t)
+      only = λ i low high t. (0, omega arith, alone i low high t);
     }
   where
     alone : (i : ℕ) → a ≤ i → i < b → test i ≡ true → i ≡ x + 0 * 0
     alone i low high t =
         elim (cases-lt i x) [
-          inl less ↦ absurd (both-ways (test i) (before i low less) t)
-        | inr not-less ↦
-            elim (cases-eq i x) [ inl e ↦ omega arith | inr off ↦ absurd (both-ways (test i) (after i (omega arith) high) t) ]
+          | inl less ↦ absurd (both-ways (test i) (before i low less) t)
+          | inr not-less ↦
+              elim (cases-eq i x) [ inl e ↦ omega arith | inr off ↦ absurd (both-ways (test i) (after i (omega arith) high) t) ]
         ]
 
 -- how many multiples of a step go up to a reach, and that a multiple within it is counted
@@ -159,3 +160,21 @@ multiple-within j q reach apart h =
 
 pub counted-within : (j q reach : ℕ) → 0 < q → j * q ≤ reach → j < 1 + reach / q
 counted-within j q reach apart h = omega (arith, le-div j reach q apart h)
+
+-- one more number of a range fails, at its end or at its start
+pub none-more : (test : ℕ → Bool) (a i : ℕ) → None-from test a i → test i ≡ false → None-from test a (i + 1)
+none-more test a i none fail k lo hi = elim (cases-eq k i) [ inl e ↦ subst (λ j. test j ≡ false) (sym e) fail | inr off ↦ none k lo (omega arith) ]
+
+pub none-before : (test : ℕ → Bool) (i b : ℕ) → None-from test (i + 1) b → test i ≡ false → None-from test i b
+none-before test i b none fail k lo hi = elim (cases-eq k i) [ inl e ↦ subst (λ j. test j ≡ false) (sym e) fail | inr off ↦ none k (omega arith) hi ]
+
+-- the greatest number that passes, where none further up does
+pub greatest-further : (test : ℕ → Bool) (a b c : ℕ) (r : Option ℕ) → b ≤ c → None-from test b c → Greatest-from test a b r → Greatest-from test a c r
+greatest-further test a b c None le none found = λ i lo hi. elim (cases-lt i b) [ inl below ↦ found i lo below | inr above ↦ none i above hi ]
+greatest-further test a b c (Some x) le none found =
+    (found .0, omega (arith, found .1), found .2, λ i lo hi. elim (cases-lt i b) [ inl below ↦ found .3 i lo below | inr above ↦ none i above hi ])
+
+-- the greatest number that passes, where none below it does, tells all
+pub tells-one : (test : ℕ → Bool) (a b x : ℕ) → Greatest-from test a b (Some x) → None-from test a x → Tells test a b (Some (triple x 0 1))
+tells-one test a b x found none =
+    (record { some = omega arith; alone = λ one. refl; still = λ step. refl }, stepwise-one test a b x (found .0) (found .1) (found .2) none (found .3))

@@ -7,7 +7,7 @@ use mathlib.Core.Logic.{_⊎_, inl, inr}
 use Prim.Native.Nat.{ℕ, zero, suc, _+_, _-_, _*_, _^_, min, _≤_, _<_}
 use native.Mathlib.Omega.{arith}
 use lib.Dec.{leb, ltb}
-use lib.ListN.{length, getD, take, drop, length-take, length-drop}
+use lib.ListN.{length, getD, take, drop, replicate, length-take, length-drop, length-append, length-replicate}
 use lib.Seq.{getD-take, getD-drop}
 use Rattle.std.specs.Iters.{counting}
 use Rattle.std.specs.Vec.{listOf}
@@ -22,11 +22,12 @@ use Rattle.std.specs.declared.option.Option.{Option}
 use Rattle.std.specs.declared.option.Option.the-variants.{None, Some}
 use Rattle.periodicity.specs.declared.Progression.{Progression}
 use Rattle.periodicity.specs.Overlaps.{is-overlap}
-use Rattle.periodicity.specs.Periods.{Period, has-period, periods-of, border-in, periods-in, records-below, records-of}
+use Rattle.periodicity.specs.Periods.{Period, has-period, periods-of, border-in, periods-in, records-below, records-of, written-records}
 use Rattle.periodicity.specs.Progressions.{triple, named, named-by, told, mirrored, Proper, Names}
 use Rattle.periodicity.specs.Ranges.{None-from, Stepwise, Tells}
 use Rattle.periodicity.proofs.Borders.{Fit}
 use Rattle.periodicity.proofs.Ranges.{kept-none, told-tells, names-tells}
+use Rattle.periodicity.proofs.OverlapsTold.{overlaps-tell}
 use Rattle.periodicity.proofs.Sameness.{at, room-from-overlap, fit-from-overlap, overlap-from-fit, period-from-test, test-from-period}
 
 -- filters of lists and of ranges
@@ -85,12 +86,14 @@ module _ (xs : List ℕ) (some : 1 ≤ length xs) where
       let rooms = room-from-overlap front back l t in
       let long = length-back in
       let fit = fit-from-overlap front back l t in
-      let short : l + 1 ≤ n = omega arith in
-      (short, test-from-period xs (n - l) (λ i h.
-        let below : i < l = omega arith in
-        let inner : i < n - 1 = omega arith in
-        let place : 1 + (length back - l + i) ≡ i + (n - l) = omega arith in
-        sym (getD-take (n - 1) xs i 0 inner) ∙ sym (fit i below) ∙ getD-drop 1 xs (length back - l + i) 0 ∙ ap (at xs) place))
+      let short : l + 1 ≤ n = omega arith in (
+        short,
+        test-from-period xs (n - l) (λ i h.
+            let below : i < l = omega arith in
+            let inner : i < n - 1 = omega arith in
+            let place : 1 + (length back - l + i) ≡ i + (n - l) = omega arith in
+            sym (getD-take (n - 1) xs i 0 inner) ∙ sym (fit i below) ∙ getD-drop 1 xs (length back - l + i) 0 ∙ ap (at xs) place),
+      )
 
   pub overlap-from-period : (l : ℕ) → l + 1 ≤ length xs → has-period xs (length xs - l) ≡ true → is-overlap (take (length xs - 1) xs) (drop 1 xs) l ≡ true
   unfolding n front back
@@ -99,9 +102,9 @@ module _ (xs : List ℕ) (some : 1 ≤ length xs) where
       let long = length-back in
       let wide = length-front in
       overlap-from-fit front back l (omega arith) (omega arith) (λ k h.
-        let inner : k < n - 1 = omega arith in
-        let place : 1 + (length back - l + k) ≡ k + (n - l) = omega arith in
-        getD-drop 1 xs (length back - l + k) 0 ∙ ap (at xs) place ∙ sym (period k (omega arith)) ∙ sym (getD-take (n - 1) xs k 0 inner))
+      let inner : k < n - 1 = omega arith in
+      let place : 1 + (length back - l + k) ≡ k + (n - l) = omega arith in
+      getD-drop 1 xs (length back - l + k) 0 ∙ ap (at xs) place ∙ sym (period k (omega arith)) ∙ sym (getD-take (n - 1) xs k 0 inner))
 
   module _ (t : ℕ) where
     -- the range as a test on borders
@@ -132,17 +135,17 @@ module _ (xs : List ℕ) (some : 1 ≤ length xs) where
     unfolding n front back in-this
     mirror None none = λ p lo hi.
         elim (cases-bool (border-in t (n - p))) [
-          inr off ↦ and-right (has-period xs p) (border-in t (n - p)) off
-        | inl on ↦
-            let range = in-range-from (n - p) on in
-            elim (cases-bool (has-period xs p)) [
-              inr off ↦ and-left (has-period xs p) (border-in t (n - p)) off
-            | inl is ↦
-                let small = pow-pos t in
-                let same-p : n - (n - p) ≡ p = omega arith in
-                absurd (both-ways (is-overlap front back (n - p)) (none (n - p) (range .0) (range .1))
-                  (overlap-from-period (n - p) (omega arith) (subst (λ k. has-period xs k ≡ true) (sym same-p) is)))
-            ]
+          | inr off ↦ and-right (has-period xs p) (border-in t (n - p)) off
+          | inl on ↦
+              let range = in-range-from (n - p) on in
+              elim (cases-bool (has-period xs p)) [
+                | inr off ↦ and-left (has-period xs p) (border-in t (n - p)) off
+                | inl is ↦
+                    let small = pow-pos t in
+                    let same-p : n - (n - p) ≡ p = omega arith in
+                    absurd (both-ways (is-overlap front back (n - p)) (none (n - p) (range .0) (range .1))
+                    (overlap-from-period (n - p) (omega arith) (subst (λ k. has-period xs k ≡ true) (sym same-p) is)))
+              ]
         ]
     mirror (Some a) told-so = (record { some = told-so .0 .some; alone = told-so .0 .alone; still = told-so .0 .still }, steps (a .first) (a .step) (a .count) (told-so .0 .some) (told-so .1))
       where
@@ -158,7 +161,7 @@ module _ (xs : List ℕ) (some : 1 ≤ length xs) where
               moves = s .moves;
               passes = λ j h. pass j h;
               within = λ j h. room j h;
-              only = λ p lo hi is. found p lo hi (and-parts (has-period xs p) (border-in t (n - p)) is)
+              only = λ p lo hi is. found p lo hi (and-parts (has-period xs p) (border-in t (n - p)) is);
             }
           where
             period-at : (j : ℕ) → j < c → (n - (x + (c - 1) * q)) + j * q ≡ n - (x + (c - 1 - j) * q)
@@ -200,9 +203,10 @@ module _ (xs : List ℕ) (some : 1 ≤ length xs) where
     unfolding n front back in-this
     told-from-borders answer tells =
         let joint : periods-in xs t ≡ kept-by in-this (counting 1 n) = kept-by-twice (λ p. border-in t (n - p)) (has-period xs) (counting 1 n) in
-        let m = mirror answer tells in
-        (ap told joint ∙ told-tells in-this 1 n (mapped (mirrored n) answer) m,
-         subst (λ ys. Names (mapped (mirrored n) answer) ys) (sym joint) (names-tells in-this 1 n (mapped (mirrored n) answer) m))
+        let m = mirror answer tells in (
+          ap told joint ∙ told-tells in-this 1 n (mapped (mirrored n) answer) m,
+          subst (λ ys. Names (mapped (mirrored n) answer) ys) (sym joint) (names-tells in-this 1 n (mapped (mirrored n) answer) m),
+        )
 
     -- the periods of the range are those in one stretch of numbers
     stretch : periods-in xs t ≡ kept-by (has-period xs) (counting (n - 2 ^ (t + 1) + 1) ((n - 2 ^ t) - (n - 2 ^ (t + 1))))
@@ -216,14 +220,14 @@ module _ (xs : List ℕ) (some : 1 ≤ length xs) where
         let sum : n ≡ lo + (mid + hi) = omega arith in
         let start : 1 + lo ≡ lo + 1 = omega arith in
         let cut : counting 1 n ≡ counting 1 lo ++ (counting (lo + 1) mid ++ counting (lo + 1 + mid) hi) =
-            ap (counting 1) sum ∙ counting-append 1 lo (mid + hi) ∙ ap (λ b. counting 1 lo ++ counting b (mid + hi)) start
-            ∙ ap (λ ys. counting 1 lo ++ ys) (counting-append (lo + 1) mid hi) in
+        ap (counting 1) sum ∙ counting-append 1 lo (mid + hi) ∙ ap (λ b. counting 1 lo ++ counting b (mid + hi)) start
+        ∙ ap (λ ys. counting 1 lo ++ ys) (counting-append (lo + 1) mid hi) in
         let none-low : kept-by in-this (counting 1 lo) ≡ [] =
-            kept-none in-this 1 lo (λ p a b. and-right (has-period xs p) (border-in t (n - p)) (above-range (n - p) (omega arith))) in
+        kept-none in-this 1 lo (λ p a b. and-right (has-period xs p) (border-in t (n - p)) (above-range (n - p) (omega arith))) in
         let none-high : kept-by in-this (counting (lo + 1 + mid) hi) ≡ [] =
-            kept-none in-this (lo + 1 + mid) hi (λ p a b. and-right (has-period xs p) (border-in t (n - p)) (below-range (n - p) (omega arith))) in
+        kept-none in-this (lo + 1 + mid) hi (λ p a b. and-right (has-period xs p) (border-in t (n - p)) (below-range (n - p) (omega arith))) in
         let inner : kept-by in-this (counting (lo + 1) mid) ≡ kept-by (has-period xs) (counting (lo + 1) mid) =
-            kept-alike in-this (has-period xs) (lo + 1) mid (λ p a b. and-true (has-period xs p) (border-in t (n - p)) (from-in-range (n - p) (omega arith) (omega arith))) in
+        kept-alike in-this (has-period xs) (lo + 1) mid (λ p a b. and-true (has-period xs p) (border-in t (n - p)) (from-in-range (n - p) (omega arith) (omega arith))) in
         kept-by-twice (λ p. border-in t (n - p)) (has-period xs) (counting 1 n)
         ∙ ap (kept-by in-this) cut
         ∙ kept-by-append in-this (counting 1 lo) (counting (lo + 1) mid ++ counting (lo + 1 + mid) hi)
@@ -237,18 +241,24 @@ module _ (xs : List ℕ) (some : 1 ≤ length xs) where
         and-true true v e = e
         and-true false v e = refl
 
+  -- each range is told by its record
+  pub range-named : (t : ℕ) → Names (told (periods-in xs t)) (periods-in xs t)
+  range-named t =
+      let borders = overlaps-tell (take (length xs - 1) xs) (drop 1 xs) (2 ^ t) in
+      let both = told-from-borders t (borders .0) (borders .1) in
+      subst (λ o. Names o (periods-in xs t)) (sym (both .0)) (both .1)
+
   -- the records of the ranges below t name the periods whose borders are below 2^t
-  records-join : ((t : ℕ) → Names (told (periods-in xs t)) (periods-in xs t))
-      → (t : ℕ) → joined named-by (records-below xs t) ≡ kept-by (has-period xs) (counting (n - 2 ^ t + 1) (n - (n - 2 ^ t)))
-  unfolding n
-  records-join each zero =
+  records-join : (t : ℕ) → joined named-by (records-below xs t) ≡ kept-by (has-period xs) (counting (n - 2 ^ t + 1) (n - (n - 2 ^ t)))
+  unfolding n records-below
+  records-join zero =
       let start : n ≡ n - 2 ^ 0 + 1 = omega arith in
       let size : 1 ≡ n - (n - 2 ^ 0) = omega arith in
       let whole = test-from-period xs n (λ i h. absurd (omega arith)) in
       sym (ap (λ c. kept-by (has-period xs) (counting (n - 2 ^ 0 + 1) c)) (sym size) ∙ ap (λ a. kept-by (has-period xs) (counting a 1)) (sym start)
-        ∙ ap (λ b. cond b (n ∷ []) []) whole)
-  records-join each (suc t) =
-      let here : joined named-by (listOf (told (periods-in xs t))) ≡ periods-in xs t = joined-answer (told (periods-in xs t)) ∙ each t .all in
+      ∙ ap (λ b. cond b (n ∷ []) []) whole)
+  records-join (suc t) =
+      let here : joined named-by (listOf (told (periods-in xs t))) ≡ periods-in xs t = joined-answer (told (periods-in xs t)) ∙ range-named t .all in
       let twice = pow-add 2 t 1 in
       let power : 2 ^ suc t ≡ 2 ^ (t + 1) = omega arith in
       let lo = n - 2 ^ (t + 1) in
@@ -257,16 +267,61 @@ module _ (xs : List ℕ) (some : 1 ≤ length xs) where
       let next : lo + 1 + mid ≡ n - 2 ^ t + 1 = omega arith in
       joined-append named-by (listOf (told (periods-in xs t))) (records-below xs t)
       ∙ ap (λ ys. ys ++ joined named-by (records-below xs t)) (here ∙ stretch t)
-      ∙ ap (λ ys. kept-by (has-period xs) (counting (lo + 1) mid) ++ ys) (records-join each t ∙ ap (λ a. kept-by (has-period xs) (counting a (n - (n - 2 ^ t)))) (sym next))
+      ∙ ap (λ ys. kept-by (has-period xs) (counting (lo + 1) mid) ++ ys) (records-join t ∙ ap (λ a. kept-by (has-period xs) (counting a (n - (n - 2 ^ t)))) (sym next))
       ∙ sym (kept-by-append (has-period xs) (counting (lo + 1) mid) (counting (lo + 1 + mid) (n - (n - 2 ^ t))))
       ∙ ap (kept-by (has-period xs)) (sym (counting-append (lo + 1) mid (n - (n - 2 ^ t))))
       ∙ ap (λ c. kept-by (has-period xs) (counting (lo + 1) c)) sum
       ∙ ap (λ k. kept-by (has-period xs) (counting (n - k + 1) (n - (n - k)))) (sym power)
 
   -- all records together name all periods, each once
-  pub records-name-all : ((t : ℕ) → Names (told (periods-in xs t)) (periods-in xs t)) → length xs ≤ 65535 → joined named-by (records-of xs) ≡ periods-of xs
+  pub records-name-all : length xs ≤ 65535 → joined named-by (records-of xs) ≡ periods-of xs
   unfolding n
-  records-name-all each short =
+  records-name-all short =
       let start : n - 2 ^ 16 + 1 ≡ 1 = omega arith in
       let size : n - (n - 2 ^ 16) ≡ n = omega arith in
-      records-join each 16 ∙ ap (λ a. kept-by (has-period xs) (counting a (n - (n - 2 ^ 16)))) start ∙ ap (λ c. kept-by (has-period xs) (counting 1 c)) size
+      records-join 16 ∙ ap (λ a. kept-by (has-period xs) (counting a (n - (n - 2 ^ 16)))) start ∙ ap (λ c. kept-by (has-period xs) (counting 1 c)) size
+
+-- how many records there are
+pub records-few : (xs : List ℕ) (t : ℕ) → length (records-below xs t) ≤ t + 1
+unfolding records-below
+records-few xs zero = omega arith
+records-few xs (suc t) =
+    let few = records-few xs t in
+    let one : length (listOf (told (periods-in xs t))) ≤ 1 = at-most-one (told (periods-in xs t)) in
+    simp length-append (omega arith)
+  where
+    at-most-one : (o : Option Progression) → length (listOf o) ≤ 1
+    at-most-one None = omega arith
+    at-most-one (Some p) = omega arith
+
+-- records of three zeros name nothing
+pub zeros-name-none : (k : ℕ) → joined named-by (replicate k (triple 0 0 0)) ≡ []
+zeros-name-none zero = refl
+zeros-name-none (suc k) = zeros-name-none k
+
+-- records filled up to 17 by zeros
+padded : (records : List Progression) → length records ≤ 17
+    → (length (records ++ replicate (17 - length records) (triple 0 0 0)) ≡ 17)
+    × (joined named-by (records ++ replicate (17 - length records) (triple 0 0 0)) ≡ joined named-by records)
+padded records few =
+    let rest = 17 - length records in (
+      simp (length-append, length-replicate) (omega arith),
+      joined-append named-by records (replicate rest (triple 0 0 0)) ∙ ap (λ ys. joined named-by records ++ ys) (zeros-name-none rest) ∙ append-nil (joined named-by records),
+    )
+
+-- the 17 records that are written name all periods, each once
+pub written-name-all : (xs : List ℕ) → 1 ≤ length xs → length xs ≤ 65535 → (length (written-records xs) ≡ 17) × (joined named-by (written-records xs) ≡ periods-of xs)
+unfolding written-records
+written-name-all xs some short =
+    let both = padded (records-of xs) (records-few xs 16) in
+    (both .0, both .1 ∙ records-name-all xs some short)
+
+-- the records, range by range
+pub records-step : (xs : List ℕ) (t : ℕ) → 0 < t → records-below xs t ≡ listOf (told (periods-in xs (t - 1))) ++ records-below xs (t - 1)
+unfolding records-below
+records-step xs zero some = absurd (omega arith)
+records-step xs (suc t) some = let e : t ≡ suc t - 1 = omega arith in ap (λ k. listOf (told (periods-in xs k)) ++ records-below xs k) e
+
+pub records-last : (xs : List ℕ) → records-below xs 0 ≡ triple (length xs) 0 1 ∷ []
+unfolding records-below
+records-last xs = refl

@@ -19,13 +19,13 @@ module _ (x : ℕ → ℕ) (n : ℕ) where
   pub repeats-less : (p q : ℕ) → q ≤ p → p + q ≤ n → Repeats x n p → Repeats x n q → Repeats x n (p - q)
   repeats-less p q le fits rp rq k h =
       elim (cases-lt (k + p) n) [
-        inl on ↦
-          let there : (k + (p - q)) + q ≡ k + p = omega arith in
-          rp k on ∙ moved x (k + p) ((k + (p - q)) + q) (sym there) ∙ sym (rq (k + (p - q)) (omega arith))
-      | inr off ↦
-          let back : (k - q) + q ≡ k = omega arith in
-          let on : (k - q) + p ≡ k + (p - q) = omega arith in
-          moved x k ((k - q) + q) (sym back) ∙ sym (rq (k - q) (omega arith)) ∙ rp (k - q) (omega arith) ∙ moved x ((k - q) + p) (k + (p - q)) on
+        | inl on ↦
+            let there : (k + (p - q)) + q ≡ k + p = omega arith in
+            rp k on ∙ moved x (k + p) ((k + (p - q)) + q) (sym there) ∙ sym (rq (k + (p - q)) (omega arith))
+        | inr off ↦
+            let back : (k - q) + q ≡ k = omega arith in
+            let on : (k - q) + p ≡ k + (p - q) = omega arith in
+            moved x k ((k - q) + q) (sym back) ∙ sym (rq (k - q) (omega arith)) ∙ rp (k - q) (omega arith) ∙ moved x ((k - q) + p) (k + (p - q)) on
       ]
 
   -- what is left of a period after as many of another as go into it

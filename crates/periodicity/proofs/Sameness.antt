@@ -57,7 +57,7 @@ module _ (xs : List ℕ) (pattern : Fragment) (in-strip : pattern .start + patte
       let there = length-part xs (pattern .start) (pattern .length) in-strip in
       same-from-equal (part xs i (pattern .length)) (cut xs pattern)
       (ext-getD 0 (part xs i (pattern .length)) (cut xs pattern) (here ∙ sym there)
-       (λ k h. let below : k < pattern .length = omega arith in at-part xs i (pattern .length) k below ∙ match k below))
+      (λ k h. let below : k < pattern .length = omega arith in at-part xs i (pattern .length) k below ∙ match k below))
 
 -- an overlap is a length that fits
 module _ (first second : List ℕ) where
@@ -77,10 +77,10 @@ module _ (first second : List ℕ) where
       and-from (leb n (length first) && leb n (length second)) (same (drop (length second - n) second) (take n first))
       (and-from (leb n (length first)) (leb n (length second)) (le-leb n (length first) in-first) (le-leb n (length second) in-second))
       (same-from-equal (drop (length second - n) second) (take n first)
-       (ext-getD 0 (drop (length second - n) second) (take n first) long
-        (λ k h.
-          let below : k < n = omega (arith, simp length-drop at h) in
-          getD-drop (length second - n) second k 0 ∙ fit k below ∙ sym (getD-take n first k 0 below))))
+      (ext-getD 0 (drop (length second - n) second) (take n first) long
+      (λ k h.
+      let below : k < n = omega (arith, simp length-drop at h) in
+      getD-drop (length second - n) second k 0 ∙ fit k below ∙ sym (getD-take n first k 0 below))))
 
 -- the test of a period
 pub period-from-test : (xs : List ℕ) (p : ℕ) → has-period xs p ≡ true → Period xs p
@@ -94,7 +94,7 @@ test-from-period xs p period =
     let long : length (drop p xs) ≡ length (take (length xs - p) xs) = simp (length-take, length-drop) (omega arith) in
     same-from-equal (drop p xs) (take (length xs - p) xs)
     (ext-getD 0 (drop p xs) (take (length xs - p) xs) long
-     (λ k h.
-       let below : k < length xs - p = omega (arith, simp length-drop at h) in
-       let e : k + p ≡ p + k = omega arith in
-       getD-drop p xs k 0 ∙ sym (period k (omega arith) ∙ ap (at xs) e) ∙ sym (getD-take (length xs - p) xs k 0 below)))
+    (λ k h.
+    let below : k < length xs - p = omega (arith, simp length-drop at h) in
+    let e : k + p ≡ p + k = omega arith in
+    getD-drop p xs k 0 ∙ sym (period k (omega arith) ∙ ap (at xs) e) ∙ sym (getD-take (length xs - p) xs k 0 below)))

@@ -5,3 +5,4 @@ pub mod Ranges
 pub mod Places
 pub mod Overlaps
 pub mod Periods
+pub mod Laws

@@ -34,7 +34,7 @@ periods-in xs t = kept-by (λ p. border-in t (length xs - p)) (periods-of xs)
 
 -- the records of the ranges below t, greatest first: a range without a border gives none, and border 0,
 -- whose period is the length, gives the last
-abbrev pub records-below : List ℕ → ℕ → List Progression
+unfoldable pub records-below : List ℕ → ℕ → List Progression
 records-below xs zero = triple (length xs) 0 1 ∷ []
 records-below xs (suc t) = listOf (told (periods-in xs t)) ++ records-below xs t
 
@@ -43,5 +43,5 @@ abbrev pub records-of : List ℕ → List Progression
 records-of xs = records-below xs 16
 
 -- the 17 records that are written: those in use, then three zeros for each that is not
-abbrev pub written-records : List ℕ → List Progression
+unfoldable pub written-records : List ℕ → List Progression
 written-records xs = records-of xs ++ replicate (17 - length (records-of xs)) (triple 0 0 0)
