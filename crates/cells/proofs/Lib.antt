@@ -1,0 +1,2 @@
+-- Facts that the answers of this crate use.
+pub mod Firsts
