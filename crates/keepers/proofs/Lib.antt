@@ -1,0 +1,2 @@
+-- Lemmas that the proofs of the keepers share.
+pub mod Promises
