@@ -1,1 +1,5 @@
-mod Try
+pub mod StripFacts
+pub mod FilingFacts
+pub mod NamingFacts
+pub mod Parsing
+pub mod Ends

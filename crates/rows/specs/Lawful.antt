@@ -35,7 +35,7 @@ unfoldable pub lawful-row : List Row → ℕ → Bool
 lawful-row rows n =
     (parts-below n (row-of rows n .shape) && found-as n (find rows (row-of rows n .shape)))
     && ((eqb (row-of rows n .length) (length (strip rows n)) && leb (length (strip rows n)) 65535)
-        && comes-to n (row-of rows n .round) (settle (take n rows) (strip rows n)))
+    && comes-to n (row-of rows n .round) (settle (take n rows) (strip rows n)))
 
 -- there are at most 1,024 rows, and each is lawful
 pub record Lawful (rows : List Row) : Type 0 where

@@ -36,3 +36,17 @@ strip rows n = known-as (strips-from [] rows) n
 -- the strips of a string of numbers, joined
 abbrev pub expanded : List Row → List ℕ → List ℕ
 expanded rows numbers = joined (strip rows) numbers
+
+-- the same with the number of each leaf in place of its code: what the rounds start from
+abbrev pub leaf-written : List (List ℕ) → Shape → List ℕ
+leaf-written done (Leaf code) = (length done + 1) ∷ []
+leaf-written done (Pair left right) = known-as done left ++ known-as done right
+leaf-written done (Repeat part count) = times count (known-as done part)
+
+abbrev pub leaf-strings-from : List (List ℕ) → List Row → List (List ℕ)
+leaf-strings-from done [] = done
+leaf-strings-from done (row ∷ rows) = leaf-strings-from (done ++ (leaf-written done (row .shape) ∷ [])) rows
+
+-- the leaf numbers of a number's strip
+unfoldable pub leaf-string : List Row → ℕ → List ℕ
+leaf-string rows n = known-as (leaf-strings-from [] rows) n

@@ -22,7 +22,11 @@ pub struct Row {
 }
 
 // A row that is not in use.
-pub const BLANK: Row = Row { shape: Shape::Leaf { code: 0 }, length: 0, round: 0 };
+pub const BLANK: Row = Row {
+    shape: Shape::Leaf { code: 0 },
+    length: 0,
+    round: 0,
+};
 
 // The most rows that a shelf has.
 pub const MAX_ROWS: usize = 1024;
