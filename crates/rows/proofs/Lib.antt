@@ -3,3 +3,7 @@ pub mod FilingFacts
 pub mod NamingFacts
 pub mod Parsing
 pub mod Ends
+pub mod RoundFacts
+pub mod KeepFacts
+pub mod LawfulFacts
+pub mod SettleFacts
