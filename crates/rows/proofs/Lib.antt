@@ -7,3 +7,5 @@ pub mod RoundFacts
 pub mod KeepFacts
 pub mod LawfulFacts
 pub mod SettleFacts
+pub mod OneNumber
+pub mod LeafFacts
