@@ -1,2 +1,2 @@
--- Lemmas that the proofs of the keepers share.
-pub mod Promises
+-- What the proofs of the keepers share.
+pub mod Greatests

@@ -1,3 +1,4 @@
--- What a keeper promises: how many codes it stands for, and what its answers about two places are.
+-- What a keeper promises, and how a layer comes to its answers.
 pub mod Shortness
 pub mod Extensions
+pub mod Layers

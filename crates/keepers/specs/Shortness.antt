@@ -2,7 +2,8 @@
 use mathlib.Core.List.{List, reverse}
 use Prim.Native.Nat.{ℕ, _≤_}
 use native.Mathlib.Omega.{arith}
-use lib.ListN.{length, take, drop, length-take, length-drop, length-reverse}
+use lib.ListN.{length, length-take, length-drop, length-reverse}
+use Rattle.periodicity.specs.Fragments.{part}
 
 -- the most codes that a keeper stands for
 abbrev pub most-codes : ℕ
@@ -17,7 +18,7 @@ abbrev pub All-short : {K : Type 0} → (K → List ℕ) → Type 0
 All-short {K} codes = (keeper : K) → Short-list (codes keeper)
 
 -- a window of a short list is short
-pub short-window : (xs : List ℕ) (start size : ℕ) → Short-list xs → Short-list (take size (drop start xs))
+pub short-window : (xs : List ℕ) (start size : ℕ) → Short-list xs → Short-list (part xs start size)
 short-window xs start size few = simp (length-take, length-drop) (omega arith)
 
 -- a short list backwards is short

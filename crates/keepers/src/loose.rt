@@ -21,11 +21,19 @@ impl<'a> LooseStrip<'a> {
     pub fn new(codes: &'a [u32]) -> Self
         ensures { λ r. ⌜ now (r .kept) ≡ take most-codes (now (codes .entry)) ⌝ }
     {
-        let count = codes.len().min(MAX_CODES);
         LooseStrip {
-            kept: &codes[0..count],
+            kept: first_codes(codes, MAX_CODES),
         }
     }
+}
+
+// The first codes, so many of them or, where there are fewer, all.
+fn first_codes(codes: &[u32], most: usize) -> &[u32]
+    ensures front { λ r. ⌜ now r ≡ take most (now (codes .entry)) ⌝ }
+    ensures few { λ r. ⌜ length (now r) ≤ most ⌝ }
+{
+    let count = codes.len().min(most);
+    &codes[0..count]
 }
 
 // How many codes agree from `i` and from `j` on.

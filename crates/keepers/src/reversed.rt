@@ -1,9 +1,8 @@
 // A reversed layer: what another keeper stands for, from its end to its start.
 
 ghost use mathlib.Core.List.{reverse};
-ghost use mathlib.Core.Path.{_≡_};
-ghost use lib.ListN.{length};
 ghost use denote.Ref.{now};
+ghost use Rattle.keepers.specs.Layers.{Reversed-answers};
 ghost use Rattle.keepers.specs.Shortness.{short-reverse};
 use crate::Keeper;
 
@@ -13,10 +12,9 @@ pub struct Reversed<K> {
 }
 
 impl<K: Keeper> Reversed<K> {
-    // As many codes as below.
+    // How many codes there are, below as in the layer.
     fn count(&self) -> usize
-        ensures below { λ r. ⌜ r ≡ length (K·Keeper .codes (now (self .entry) .below)) ⌝ }
-        ensures turned { λ r. ⌜ r ≡ length (reverse (K·Keeper .codes (now (self .entry) .below))) ⌝ }
+        ensures { λ r. ⌜ Reversed-answers (K·Keeper .codes (now (self .entry) .below)) r ⌝ }
     {
         self.below.len()
     }

@@ -1,15 +1,15 @@
 // A window: a part of what another keeper stands for.
 
 ghost use mathlib.Core.Path.{_≡_};
-ghost use Prim.Native.Nat.{_+_, _≤_, min};
-ghost use lib.ListN.{length, take, drop};
 ghost use denote.Ref.{now};
-ghost use Rattle.keepers.specs.Shortness.{most-codes, short-window};
+ghost use Rattle.periodicity.specs.Fragments.{part};
+ghost use Rattle.keepers.specs.Layers.{capped, Window-answers};
+ghost use Rattle.keepers.specs.Shortness.{short-window};
 use crate::Keeper;
 use periodicity::Fragment;
 
-// It starts at the smaller of `start` and the length below, and has `length` codes or, where fewer
-// remain, those.
+// Any start and length will do: the window starts at the smaller of `start` and the length below, and
+// has `length` codes or, where fewer remain, those.
 #[derive(Clone, Copy)]
 pub struct Window<K> {
     pub below: K,
@@ -17,12 +17,20 @@ pub struct Window<K> {
     pub length: usize,
 }
 
+// An answer, cut where it counts more codes than there is room for.
+fn at_most(room: usize, answer: Option<usize>) -> Option<usize>
+    ensures { λ r. ⌜ r ≡ capped room answer ⌝ }
+{
+    match answer {
+        Some(count) => Some(count.min(room)),
+        None => None,
+    }
+}
+
 impl<K: Keeper> Window<K> {
-    // The part of what is below that the window shows.
+    // The fragment of what is below that the window shows.
     fn shown(&self) -> Fragment
-        ensures starts { λ r. ⌜ r .start ≡ min (now (self .entry) .start) (length (K·Keeper .codes (now (self .entry) .below))) ⌝ }
-        ensures long { λ r. ⌜ r .length ≡ length (take (now (self .entry) .length) (drop (now (self .entry) .start) (K·Keeper .codes (now (self .entry) .below)))) ⌝ }
-        ensures inside { λ r. ⌜ r .start + r .length ≤ most-codes ⌝ }
+        ensures { λ r. ⌜ Window-answers (K·Keeper .codes (now (self .entry) .below)) (now (self .entry) .start) (now (self .entry) .length) r ⌝ }
     {
         let below = self.below.len();
         let start = self.start.min(below);
@@ -34,7 +42,7 @@ impl<K: Keeper> Window<K> {
 }
 
 pub impl<K: Keeper> Keeper for Window<K> as WindowKeeper {
-    ghost codes = { λ window. take (window .length) (drop (window .start) (K·Keeper .codes (window .below))) };
+    ghost codes = { λ window. part (K·Keeper .codes (window .below)) (window .start) (window .length) };
 
     ghost short = { λ window. short-window (K·Keeper .codes (window .below)) (window .start) (window .length) (K·Keeper .short (window .below)) };
 
@@ -55,8 +63,8 @@ pub impl<K: Keeper> Keeper for Window<K> as WindowKeeper {
         if i > shown.length || j > shown.length {
             return None;
         }
-        let agreeing = self.below.ahead(shown.start + i, shown.start + j)?;
-        Some(agreeing.min(shown.length - i.max(j)))
+        let room = shown.length - i.max(j);
+        at_most(room, self.below.ahead(shown.start + i, shown.start + j))
     }
 
     fn behind(&self, i: usize, j: usize) -> Option<usize> {
@@ -64,7 +72,7 @@ pub impl<K: Keeper> Keeper for Window<K> as WindowKeeper {
         if i > shown.length || j > shown.length {
             return None;
         }
-        let agreeing = self.below.behind(shown.start + i, shown.start + j)?;
-        Some(agreeing.min(i).min(j))
+        let room = i.min(j);
+        at_most(room, self.below.behind(shown.start + i, shown.start + j))
     }
 }

@@ -1,19 +1,18 @@
 -- How far lists agree: `common` is the greatest agreeing length, and how it goes through a window of a
 -- list and through its reversal. Assumes nothing.
-use mathlib.Core.Bool.{true, false, cond, _&&_}
+use mathlib.Core.Bool.{true, false, cond}
 use mathlib.Core.List.{List, [], _∷_, _++_, reverse}
 use mathlib.Core.Logic.{_⊎_, inl, inr}
 use mathlib.Core.Path.{_≡_, sym, ap, ap₂, _∙_}
 use Prim.Native.Nat.{ℕ, zero, suc, _+_, _-_, min, max, _≤_, _<_}
 use native.Mathlib.Omega.{arith}
-use lib.Dec.{eqb, ltb, leb}
+use lib.Dec.{eqb, leb}
 use lib.ListN.{length, getD, take, drop, length-take, length-drop, length-reverse, take-append-drop}
 use lib.Seq.{take-take, drop-drop, take-add, take-at, drop-at, take-all, length-take-le, getD-take, getD-drop}
 use Rattle.std.proofs.shelf.Lists.{drop-all, drop-take, reverse-append, reverse-reverse, getD-reverse}
 use Rattle.std.proofs.shelf.Tests.{eq-eqb, ne-eqb, eqb-true, leb-true, leb-false, le-leb, lt-leb, lt-ltb, le-ltb, and-from, and-left, and-right, and-parts, and-cases, cases-bool, cases-lt, cond-true, cond-false}
 use Rattle.std.proofs.shelf.Sums.{common-le, common-drop-yes, common-drop-no}
 use Rattle.std.specs.Options.{mapped}
-use Rattle.std.specs.declared.option.Option.{Option}
 use Rattle.std.specs.declared.option.Option.the-variants.{None, Some}
 use Rattle.periodicity.specs.Agreement.{common, Agree, Greatest, both-within, code-of, ahead-of, behind-of}
 
@@ -25,6 +24,7 @@ heads-counted x y n k h = by (cases-bool (eqb x y))
     by (inl e) = (eqb-true x y e, omega (arith, cond-true (eqb x y) (1 + n) 0 e))
     by (inr e) = absurd (omega (arith, cond-false (eqb x y) (1 + n) 0 e))
 
+-- The codes that `common` counts are the same in both lists, and no greater number of codes is.
 common-each : (xs ys : List ℕ) (k : ℕ) → k < common xs ys → getD xs k 0 ≡ getD ys k 0
 common-each [] ys k h = absurd (omega arith)
 common-each (x ∷ xs) [] k h = absurd (omega arith)
@@ -281,18 +281,12 @@ module _ (xs : List ℕ) (l s first len : ℕ) (starts : first ≡ min s (length
   pub code-window : (i : ℕ) → i < len → code-of xs (first + i) ≡ code-of (take l (drop s xs)) i
   code-window i i-in = code-inside xs first len window-inside i i-in ∙ ap (λ ys. code-of ys i) window-same
 
-  module _ (i j : ℕ) (i-in : i ≤ len) (j-in : j ≤ len) (answer : Option ℕ) where
-    pub ahead-window : answer ≡ ahead-of xs (first + i) (first + j) → mapped (λ n. min n (len - max i j)) answer ≡ ahead-of (take l (drop s xs)) i j
-    ahead-window is =
-        ap (mapped (λ n. min n (len - max i j))) is
-        ∙ ahead-inside xs first len window-inside i j i-in j-in
-        ∙ ap (λ ys. ahead-of ys i j) window-same
+  module _ (i j : ℕ) (i-in : i ≤ len) (j-in : j ≤ len) where
+    pub ahead-window : mapped (λ n. min n (len - max i j)) (ahead-of xs (first + i) (first + j)) ≡ ahead-of (take l (drop s xs)) i j
+    ahead-window = ahead-inside xs first len window-inside i j i-in j-in ∙ ap (λ ys. ahead-of ys i j) window-same
 
-    pub behind-window : answer ≡ behind-of xs (first + i) (first + j) → mapped (λ n. min n (min i j)) answer ≡ behind-of (take l (drop s xs)) i j
-    behind-window is =
-        ap (mapped (λ n. min n (min i j))) is
-        ∙ behind-inside xs first len window-inside i j i-in j-in
-        ∙ ap (λ ys. behind-of ys i j) window-same
+    pub behind-window : mapped (λ n. min n (min i j)) (behind-of xs (first + i) (first + j)) ≡ behind-of (take l (drop s xs)) i j
+    behind-window = behind-inside xs first len window-inside i j i-in j-in ∙ ap (λ ys. behind-of ys i j) window-same
 
 -- A list backwards.
 reverse-parts : (n : ℕ) (xs : List ℕ) → reverse xs ≡ reverse (drop n xs) ++ reverse (take n xs)

@@ -46,7 +46,7 @@ comes-is rows codes n k (Some s) long is h =
     let numbers-are = one-number (s .numbers) n (eqb-true (length (s .numbers)) 1 (left .0)) (eqb-true (number-left (s .numbers)) n (left .1)) in
     let grown = settle-grows rows codes s is in
     let none : grown .0 ≡ [] =
-        nil-from-length (grown .0) (let sum = ap length (grown .1) ∙ length-append rows (grown .0) in let full = eqb-true (length (s .rows)) n (right .0) in omega arith) in
+    nil-from-length (grown .0) (let sum = ap length (grown .1) ∙ length-append rows (grown .0) in let full = eqb-true (length (s .rows)) n (right .0) in omega arith) in
     let rows-are : s .rows ≡ rows = grown .1 ∙ ap (λ rs. rows ++ rs) none ∙ append-nil rows in
     let rounds-are = eqb-true (s .rounds) k (right .1) in
     is ∙ ap Some (λ i. record { numbers = numbers-are i; rows = rows-are i; rounds = rounds-are i })
@@ -64,7 +64,7 @@ row-from-test rows n within h =
       found = found-is n (find rows (row .shape)) (first .1);
       long = eqb-true (row .length) (length (strip rows n)) (lengths .0);
       short = leb-true (length (strip rows n)) 65535 (lengths .1);
-      comes = comes-is (take n rows) (strip rows n) n (row .round) (settle (take n rows) (strip rows n)) (length-take-le n rows within) refl (second .1)
+      comes = comes-is (take n rows) (strip rows n) n (row .round) (settle (take n rows) (strip rows n)) (length-take-le n rows within) refl (second .1);
     }
 
 pub test-from-row : (rows : List Row) (n : ℕ) → n ≤ length rows → Row-lawful rows n → lawful-row rows n ≡ true
@@ -73,14 +73,14 @@ test-from-row rows n within law =
     let row = row-of rows n in
     let finds : found-as n (find rows (row .shape)) ≡ true = ap (found-as n) (law .found) ∙ eq-eqb n n refl in
     let last : comes-to n (row .round) (Some (record { numbers = n ∷ []; rows = take n rows; rounds = row .round })) ≡ true =
-        and-from (eqb 1 1 && eqb n n) (eqb (length (take n rows)) n && eqb (row .round) (row .round))
-        (eq-eqb n n refl)
-        (and-from (eqb (length (take n rows)) n) (eqb (row .round) (row .round)) (eq-eqb (length (take n rows)) n (length-take-le n rows within)) (eq-eqb (row .round) (row .round) refl)) in
+    and-from (eqb 1 1 && eqb n n) (eqb (length (take n rows)) n && eqb (row .round) (row .round))
+    (eq-eqb n n refl)
+    (and-from (eqb (length (take n rows)) n) (eqb (row .round) (row .round)) (eq-eqb (length (take n rows)) n (length-take-le n rows within)) (eq-eqb (row .round) (row .round) refl)) in
     and-from (parts-below n (row .shape) && found-as n (find rows (row .shape))) ((eqb (row .length) (length (strip rows n)) && leb (length (strip rows n)) 65535) && comes-to n (row .round) (settle (take n rows) (strip rows n)))
     (and-from (parts-below n (row .shape)) (found-as n (find rows (row .shape))) (law .parts) finds)
     (and-from (eqb (row .length) (length (strip rows n)) && leb (length (strip rows n)) 65535) (comes-to n (row .round) (settle (take n rows) (strip rows n)))
-      (and-from (eqb (row .length) (length (strip rows n))) (leb (length (strip rows n)) 65535) (eq-eqb (row .length) (length (strip rows n)) (law .long)) (le-leb (length (strip rows n)) 65535 (law .short)))
-      (ap (comes-to n (row .round)) (law .comes) ∙ last))
+    (and-from (eqb (row .length) (length (strip rows n))) (leb (length (strip rows n)) 65535) (eq-eqb (row .length) (length (strip rows n)) (law .long)) (le-leb (length (strip rows n)) 65535 (law .short)))
+    (ap (comes-to n (row .round)) (law .comes) ∙ last))
 
 -- a lawful row stays lawful when rows are added
 pub row-lawful-append : (rows more : List Row) (n : ℕ) → n ≤ length rows → Row-lawful rows n → Row-lawful (rows ++ more) n
@@ -95,7 +95,7 @@ row-lawful-append rows more n within law =
       short = subst (λ xs. length xs ≤ 65535) (sym same-strip) (law .short);
       comes = ap (λ rs. settle rs (strip (rows ++ more) n)) same-rows ∙ ap (settle (take n rows)) same-strip ∙ law .comes
           ∙ ap (λ rs. Some (record { numbers = n ∷ []; rows = rs; rounds = row-of rows n .round })) (sym same-rows)
-          ∙ ap (λ r. Some (record { numbers = n ∷ []; rows = take n (rows ++ more); rounds = r .round })) (sym same-row)
+          ∙ ap (λ r. Some (record { numbers = n ∷ []; rows = take n (rows ++ more); rounds = r .round })) (sym same-row);
     }
 
 pub row-lawful : (rows : List Row) → Lawful rows → (n : ℕ) → 0 < n → n ≤ length rows → Row-lawful rows n

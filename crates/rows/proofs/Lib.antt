@@ -9,3 +9,4 @@ pub mod LawfulFacts
 pub mod SettleFacts
 pub mod OneNumber
 pub mod LeafFacts
+pub mod ShapeFacts

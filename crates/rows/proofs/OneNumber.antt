@@ -41,7 +41,7 @@ settled-stands rows codes s law short h =
       numbers = s .numbers;
       rounds = s .rounds;
       comes = ap (λ rs. settle rs codes) (sym (append-nil (s .rows))) ∙ again ∙ ap (λ rs. Some (record { numbers = s .numbers; rows = rs; rounds = s .rounds })) (append-nil (s .rows));
-      is = refl
+      is = refl;
     }
 
 -- and goes on standing when rows are added
@@ -53,17 +53,18 @@ stands-append rows more codes n stands =
       numbers = stands .numbers;
       rounds = stands .rounds;
       comes = settle-replay rows codes (record { numbers = stands .numbers; rows = rows; rounds = stands .rounds }) more (stands .comes);
-      is = stands .is
+      is = stands .is;
     }
 
 -- two strips that stand on the same rows have equal numbers exactly when they are equal
 pub one-number : (rows : List Row) (a b : List ℕ) (m n : ℕ) → Stands rows a m → Stands rows b n → (m ≡ n) ↔ (a ≡ b)
-one-number rows a b m n left right =
-    (λ same. sym (left .writes) ∙ ap (strip rows) same ∙ right .writes,
-     λ same.
-       let both : Some (record { numbers = left .numbers; rows = rows; rounds = left .rounds }) ≡ Some (record { numbers = right .numbers; rows = rows; rounds = right .rounds }) =
-           sym (left .comes) ∙ ap (settle rows) same ∙ right .comes in
-       sym (left .is) ∙ same-number (record { numbers = left .numbers; rows = rows; rounds = left .rounds }) (record { numbers = right .numbers; rows = rows; rounds = right .rounds }) both ∙ right .is)
+one-number rows a b m n left right = (
+  λ same. sym (left .writes) ∙ ap (strip rows) same ∙ right .writes,
+  λ same.
+      let both : Some (record { numbers = left .numbers; rows = rows; rounds = left .rounds }) ≡ Some (record { numbers = right .numbers; rows = rows; rounds = right .rounds }) =
+      sym (left .comes) ∙ ap (settle rows) same ∙ right .comes in
+      sym (left .is) ∙ same-number (record { numbers = left .numbers; rows = rows; rounds = left .rounds }) (record { numbers = right .numbers; rows = rows; rounds = right .rounds }) both ∙ right .is,
+)
   where
     same-number : (s t : Settled) → Some s ≡ Some t → number-left (s .numbers) ≡ number-left (t .numbers)
     same-number s t e = let f : s ≡ t = cc in ap (λ r. number-left (r .numbers)) f

@@ -46,14 +46,14 @@ unfolding rounds-from
 rounds-come zero k f s start h so-far = let e : settled f k ≡ s = cc in subst (λ g. Comes (g .rows) (g .rounds) start (g .numbers)) e so-far
 rounds-come (suc most) k f s start h so-far =
     elim (cases-bool (ltb (length (f .numbers)) 2)) [
-      inl done ↦
-        let e : settled f k ≡ s = let g = sym (cond-true (ltb (length (f .numbers)) 2) (Some (settled f k)) (then (round (k + 1) f) (rounds-from most (k + 1))) done) ∙ h in cc in
-        subst (λ g. Comes (g .rows) (g .rounds) start (g .numbers)) e so-far
-    | inr on ↦
-        let next = then-some (round (k + 1) f) (rounds-from most (k + 1)) s (sym (cond-false (ltb (length (f .numbers)) 2) (Some (settled f k)) (then (round (k + 1) f) (rounds-from most (k + 1))) on) ∙ h) in
-        let this = file-all-grows (k + 1) (blocks (k + 1) (f .numbers)) (f .rows) (next .0) (next .1) in
-        let grown = subst (λ rs. Comes rs k start (f .numbers)) (sym (this .grows)) (comes-append (f .rows) (this .added) k start (f .numbers) so-far) in
-        rounds-come most (k + 1) (next .0) s start (next .2) (one-more k (f .numbers) (next .0) grown (this .names))
+      | inl done ↦
+          let e : settled f k ≡ s = let g = sym (cond-true (ltb (length (f .numbers)) 2) (Some (settled f k)) (then (round (k + 1) f) (rounds-from most (k + 1))) done) ∙ h in cc in
+          subst (λ g. Comes (g .rows) (g .rounds) start (g .numbers)) e so-far
+      | inr on ↦
+          let next = then-some (round (k + 1) f) (rounds-from most (k + 1)) s (sym (cond-false (ltb (length (f .numbers)) 2) (Some (settled f k)) (then (round (k + 1) f) (rounds-from most (k + 1))) on) ∙ h) in
+          let this = file-all-grows (k + 1) (blocks (k + 1) (f .numbers)) (f .rows) (next .0) (next .1) in
+          let grown = subst (λ rs. Comes rs k start (f .numbers)) (sym (this .grows)) (comes-append (f .rows) (this .added) k start (f .numbers) so-far) in
+          rounds-come most (k + 1) (next .0) s start (next .2) (one-more k (f .numbers) (next .0) grown (this .names))
     ]
   where
     one-more : (j : ℕ) (u : List ℕ) (g : Filed) → Comes (g .rows) j start u → Named (g .rows) (blocks (j + 1) u) (g .numbers) → Comes (g .rows) (j + 1) start (g .numbers)
@@ -112,12 +112,15 @@ fragment-comes rows (suc j) s before part after c =
     let u = c .0 in
     let cut = part-named rows (blocks (suc j) u) before part after (c .2) in
     let u-parts : u ≡ spelled (cut .front) ++ (spelled (cut .middle) ++ spelled (cut .back)) =
-        sym (spelled-blocks (suc j) u) ∙ ap spelled (cut .joins-up) ∙ spelled-append (cut .front) (cut .middle ++ cut .back) ∙ ap (λ xs. spelled (cut .front) ++ xs) (spelled-append (cut .middle) (cut .back)) in
+    sym (spelled-blocks (suc j) u) ∙ ap spelled (cut .joins-up) ∙ spelled-append (cut .front) (cut .middle ++ cut .back) ∙ ap (λ xs. spelled (cut .front) ++ xs) (spelled-append (cut .middle) (cut .back)) in
     let inner = fragment-comes rows j s (spelled (cut .front)) (spelled (cut .middle)) (spelled (cut .back)) (subst (λ xs. Comes rows j s xs) u-parts (c .1)) in
     let parsed = blocks-part (suc j) u (cut .front) (cut .middle) (cut .back) (cut .joins-up) in
     record {
-      before = inner .before; source = inner .source; after = inner .after; whole = inner .whole;
-      comes = (spelled (cut .middle), inner .comes, subst (λ bs. Named rows bs part) (sym parsed) (cut .middle-named))
+      before = inner .before;
+      source = inner .source;
+      after = inner .after;
+      whole = inner .whole;
+      comes = (spelled (cut .middle), inner .comes, subst (λ bs. Named rows bs part) (sym parsed) (cut .middle-named));
     }
 
 -- numbers of a string that rows know
@@ -168,14 +171,16 @@ module _ (rows : List Row) where
       let v = g .0 in
       let middle : length v ≡ length u = omega (arith, goes-shorter j i u v (g .1), round-shorter rows (suc (j + i)) v t (g .2)) in
       let inner = stays j i u v (g .1) middle in
-      let this = unchanged (suc (j + i)) v t (g .2) (same ∙ sym middle) in
-      (this .0 ∙ inner .0, λ h below.
-        elim (cases-eq h i) [
-          inl last ↦
-            let e : suc (j + i) ≡ suc j + h = omega arith in
-            subst (λ k. length (blocks k u) ≡ length u) e (subst (λ w. length (blocks (suc (j + i)) w) ≡ length w) (inner .0) (this .1))
-        | inr earlier ↦ inner .1 h (omega arith)
-        ])
+      let this = unchanged (suc (j + i)) v t (g .2) (same ∙ sym middle) in (
+        this .0 ∙ inner .0,
+        λ h below.
+            elim (cases-eq h i) [
+              | inl last ↦
+                  let e : suc (j + i) ≡ suc j + h = omega arith in
+                  subst (λ k. length (blocks k u) ≡ length u) e (subst (λ w. length (blocks (suc (j + i)) w) ≡ length w) (inner .0) (this .1))
+              | inr earlier ↦ inner .1 h (omega arith)
+            ],
+      )
 
   -- the last i of j + i rounds
   last-rounds : (j i : ℕ) (s t : List ℕ) → Comes rows (j + i) s t → (u : List ℕ) × Comes rows j s u × Goes-on j i u t
@@ -192,10 +197,10 @@ module _ (rows : List Row) where
   rounds-shorten j (x ∷ []) t few known long g = absurd (omega arith)
   rounds-shorten j (x ∷ (y ∷ u)) t few known long g =
       elim (cases-lt (length t) (length (x ∷ (y ∷ u)))) [
-        inl less ↦ less
-      | inr not-less ↦
-          let kept = stays j 44 (x ∷ (y ∷ u)) t g (let le = goes-shorter j 44 (x ∷ (y ∷ u)) t g in omega arith) in
-          absurd (some-round-shortens (suc j) x y u (omega arith) (omega (arith, known .0 .1)) (omega (arith, known .1 .0 .1)) (kept .1))
+        | inl less ↦ less
+        | inr not-less ↦
+            let kept = stays j 44 (x ∷ (y ∷ u)) t g (let le = goes-shorter j 44 (x ∷ (y ∷ u)) t g in omega arith) in
+            absurd (some-round-shortens (suc j) x y u (omega arith) (omega (arith, known .0 .1)) (omega (arith, known .1 .0 .1)) (kept .1))
       ]
 
   -- so there are at most 44 rounds for each number that a string loses, and fewer than 44 more
@@ -203,15 +208,15 @@ module _ (rows : List Row) where
   rounds-few zero j s t few known c long below = absurd (omega arith)
   rounds-few (suc q) j s t few known c long below =
       elim (cases-lt j 44) [
-        inl first ↦ omega arith
-      | inr later ↦
-          let e : j ≡ (j - 44) + 44 = omega arith in
-          let split = last-rounds (j - 44) 44 s t (subst (λ k. Comes rows k s t) e c) in
-          let u = split .0 in
-          let u-known = comes-known rows (j - 44) s u known (split .1) in
-          let longer : length t ≤ length u = goes-shorter (j - 44) 44 u t (split .2) in
-          let shorter = rounds-shorten (j - 44) u t few u-known (omega arith) (split .2) in
-          let before = rounds-few q (j - 44) s u few known (split .1) (omega arith) (omega arith) in
-          let within = comes-shorter rows (j - 44) s u (split .1) in
-          omega arith
+        | inl first ↦ omega arith
+        | inr later ↦
+            let e : j ≡ (j - 44) + 44 = omega arith in
+            let split = last-rounds (j - 44) 44 s t (subst (λ k. Comes rows k s t) e c) in
+            let u = split .0 in
+            let u-known = comes-known rows (j - 44) s u known (split .1) in
+            let longer : length t ≤ length u = goes-shorter (j - 44) 44 u t (split .2) in
+            let shorter = rounds-shorten (j - 44) u t few u-known (omega arith) (split .2) in
+            let before = rounds-few q (j - 44) s u few known (split .1) (omega arith) (omega arith) in
+            let within = comes-shorter rows (j - 44) s u (split .1) in
+            omega arith
       ]

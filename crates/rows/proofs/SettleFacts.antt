@@ -34,24 +34,24 @@ lawful-one-more rows row law room new-row =
     record {
       few = omega (arith, length-push rows row);
       each = λ n some within.
-        elim (cases-eq n (length rows + 1)) [
-          inl last ↦ subst (λ k. lawful-row (rows ++ (row ∷ [])) k ≡ true) (sym last) (test-from-row (rows ++ (row ∷ [])) (length rows + 1) (omega (arith, length-push rows row)) new-row)
-        | inr earlier ↦
-            let old : n ≤ length rows = omega (arith, length-push rows row) in
-            test-from-row (rows ++ (row ∷ [])) n within (row-lawful-append rows (row ∷ []) n old (row-lawful rows law n some old))
-        ]
+          elim (cases-eq n (length rows + 1)) [
+            | inl last ↦ subst (λ k. lawful-row (rows ++ (row ∷ [])) k ≡ true) (sym last) (test-from-row (rows ++ (row ∷ [])) (length rows + 1) (omega (arith, length-push rows row)) new-row)
+            | inr earlier ↦
+                let old : n ≤ length rows = omega (arith, length-push rows row) in
+                test-from-row (rows ++ (row ∷ [])) n within (row-lawful-append rows (row ∷ []) n old (row-lawful rows law n some old))
+          ];
     }
 
 -- the parts of rows with one more
 parts-one-more : (rows : List Row) (row : Row) → Parts rows → parts-below (length rows + 1) (row .shape) ≡ true → Parts (rows ++ (row ∷ []))
 parts-one-more rows row parts new-parts n some within =
     elim (cases-eq n (length rows + 1)) [
-      inl last ↦
-        subst (λ k. parts-below k (row-of (rows ++ (row ∷ [])) k .shape) ≡ true) (sym last)
-        (subst (λ r. parts-below (length rows + 1) (r .shape) ≡ true) (sym (row-added rows row)) new-parts)
-    | inr earlier ↦
-        let old : n ≤ length rows = omega (arith, length-push rows row) in
-        subst (λ r. parts-below n (r .shape) ≡ true) (sym (row-append rows (row ∷ []) n old)) (parts n some old)
+      | inl last ↦
+          subst (λ k. parts-below k (row-of (rows ++ (row ∷ [])) k .shape) ≡ true) (sym last)
+          (subst (λ r. parts-below (length rows + 1) (r .shape) ≡ true) (sym (row-added rows row)) new-parts)
+      | inr earlier ↦
+          let old : n ≤ length rows = omega (arith, length-push rows row) in
+          subst (λ r. parts-below n (r .shape) ≡ true) (sym (row-append rows (row ∷ []) n old)) (parts n some old)
     ]
 
 -- the length that a new row keeps
@@ -162,7 +162,7 @@ module _ (rows : List Row) (law : Lawful rows) (j : ℕ) (shape : Shape) (kind :
       let last : Named grown (blocks (suc j) (symbols (new shape))) (number ∷ []) = subst (λ bs. Named grown bs (number ∷ [])) (sym single) (finds, tt) in
       let as-many : length source ≡ length codes = length-named rows (map leaf-block codes) source leaf-names ∙ length-map codes leaf-block in
       let few = rounds-few grown (suc j) j source (symbols (new shape)) (omega (arith, length-push rows row))
-          (known-append rows (row ∷ []) source (leaves-known rows codes source leaf-names)) more-history two (omega arith) in
+      (known-append rows (row ∷ []) source (leaves-known rows codes source leaf-names)) more-history two (omega arith) in
       let within = comes-shorter rows j source (symbols (new shape)) history in
       ap (λ o. then o (rounds-from (enough-rounds (length codes)) 0)) (file-named 0 (map leaf-block codes) grown source names)
       ∙ comes-settle grown j (enough-rounds (length codes)) source (symbols (new shape)) number more-history two last (omega arith)
@@ -179,7 +179,7 @@ module _ (rows : List Row) (law : Lawful rows) (j : ℕ) (shape : Shape) (kind :
         short = subst (λ xs. length xs ≤ 65535) (sym strip-is) short;
         comes = ap (λ rs. settle rs (strip grown number)) whole ∙ ap (settle grown) strip-is ∙ comes-back
             ∙ ap (λ rs. Some (record { numbers = number ∷ []; rows = rs; rounds = suc j })) (sym whole)
-            ∙ ap (λ r. Some (record { numbers = number ∷ []; rows = take number grown; rounds = r .round })) (sym is)
+            ∙ ap (λ r. Some (record { numbers = number ∷ []; rows = take number grown; rounds = r .round })) (sym is);
       })
 
 -- a leaf may always be added
@@ -194,7 +194,7 @@ leaf-lawful rows code law absent room =
     let whole : take number grown ≡ grown = take-all number grown (omega (arith, length-push rows row)) in
     let finds = find-added rows row absent in
     let comes-back : settle grown (code ∷ []) ≡ Some (record { numbers = number ∷ []; rows = grown; rounds = 0 }) =
-        ap (λ o. then o (rounds-from (enough-rounds 1) 0)) (file-named 0 (leaf-block code ∷ []) grown (number ∷ []) (finds, tt)) in
+    ap (λ o. then o (rounds-from (enough-rounds 1) 0)) (file-named 0 (leaf-block code ∷ []) grown (number ∷ []) (finds, tt)) in
     lawful-one-more rows row law room (record {
       parts = subst (λ r. parts-below number (r .shape) ≡ true) (sym is) refl;
       found = subst (λ r. find grown (r .shape) ≡ Some number) (sym is) finds;
@@ -202,7 +202,7 @@ leaf-lawful rows code law absent room =
       short = subst (λ xs. length xs ≤ 65535) (sym strip-is) (omega arith);
       comes = ap (λ rs. settle rs (strip grown number)) whole ∙ ap (settle grown) strip-is ∙ comes-back
           ∙ ap (λ rs. Some (record { numbers = number ∷ []; rows = rs; rounds = 0 })) (sym whole)
-          ∙ ap (λ r. Some (record { numbers = number ∷ []; rows = take number grown; rounds = r .round })) (sym is)
+          ∙ ap (λ r. Some (record { numbers = number ∷ []; rows = take number grown; rounds = r .round })) (sym is);
     })
 
 -- filing keeps rows lawful where each new shape may be added
@@ -225,11 +225,11 @@ filing-lawful k rows more (new shape ∷ bs) f addable law h =
     let grows = file-grows k (rows ++ more) shape found (first .1) in
     let regroup : found .rows ≡ rows ++ (more ++ grows .added) = grows .grows ∙ append-assoc rows more (grows .added) in
     let still : Lawful (rows ++ (more ++ grows .added)) =
-        subst Lawful (append-assoc rows more (grows .added))
-        (elim (grows .cases) [
-          inl old ↦ subst (λ rs. Lawful ((rows ++ more) ++ rs)) (sym (old .0)) (subst Lawful (sym (append-nil (rows ++ more))) law)
-        | inr made ↦ subst (λ rs. Lawful ((rows ++ more) ++ rs)) (sym (made .0)) (addable .0 more law (made .1) (made .2))
-        ]) in
+    subst Lawful (append-assoc rows more (grows .added))
+    (elim (grows .cases) [
+      | inl old ↦ subst (λ rs. Lawful ((rows ++ more) ++ rs)) (sym (old .0)) (subst Lawful (sym (append-nil (rows ++ more))) law)
+      | inr made ↦ subst (λ rs. Lawful ((rows ++ more) ++ rs)) (sym (made .0)) (addable .0 more law (made .1) (made .2))
+    ]) in
     subst (λ g. Lawful (g .rows)) e (filing-lawful k rows (more ++ grows .added) bs (rest .0) (addable .1) still (subst (λ rs. file-all k bs rs ≡ Some (rest .0)) regroup (rest .1)))
 
 -- leaves keep rows lawful
@@ -267,22 +267,22 @@ unfolding rounds-from
 rounds-lawful zero k f s codes source short names history law h = let e : settled f k ≡ s = cc in subst (λ g. Lawful (g .rows)) e law
 rounds-lawful (suc most) k f s codes source short names history law h =
     elim (cases-bool (ltb (length (f .numbers)) 2)) [
-      inl done ↦
-        let e : settled f k ≡ s = let g = sym (cond-true (ltb (length (f .numbers)) 2) (Some (settled f k)) (then (round (k + 1) f) (rounds-from most (k + 1))) done) ∙ h in cc in
-        subst (λ g. Lawful (g .rows)) e law
-    | inr on ↦
-        let next = then-some (round (k + 1) f) (rounds-from most (k + 1)) s (sym (cond-false (ltb (length (f .numbers)) 2) (Some (settled f k)) (then (round (k + 1) f) (rounds-from most (k + 1))) on) ∙ h) in
-        let g = next .0 in
-        let this = file-all-grows (k + 1) (blocks (k + 1) (f .numbers)) (f .rows) g (next .1) in
-        let e : suc k ≡ k + 1 = omega arith in
-        let all-new = round-addable (f .rows) codes source short names k (f .numbers) history in
-        let run : file-all (suc k) (blocks (suc k) (f .numbers)) (f .rows ++ []) ≡ Some g =
-            ap (file-all (suc k) (blocks (suc k) (f .numbers))) (append-nil (f .rows)) ∙ ap (λ i. file-all i (blocks i (f .numbers)) (f .rows)) e ∙ next .1 in
-        let g-law = filing-lawful (suc k) (f .rows) [] (blocks (suc k) (f .numbers)) g all-new (subst Lawful (sym (append-nil (f .rows))) law) run in
-        let g-names = subst (λ rs. Named rs (map leaf-block codes) source) (sym (this .grows)) (named-append (f .rows) (this .added) (map leaf-block codes) source names) in
-        let before = subst (λ rs. Comes rs k source (f .numbers)) (sym (this .grows)) (comes-append (f .rows) (this .added) k source (f .numbers) history) in
-        let g-history = subst (λ i. Comes (g .rows) i source (g .numbers)) e (f .numbers, before, subst (λ i. Named (g .rows) (blocks i (f .numbers)) (g .numbers)) (sym e) (this .names)) in
-        rounds-lawful most (k + 1) g s codes source short g-names g-history g-law (next .2)
+      | inl done ↦
+          let e : settled f k ≡ s = let g = sym (cond-true (ltb (length (f .numbers)) 2) (Some (settled f k)) (then (round (k + 1) f) (rounds-from most (k + 1))) done) ∙ h in cc in
+          subst (λ g. Lawful (g .rows)) e law
+      | inr on ↦
+          let next = then-some (round (k + 1) f) (rounds-from most (k + 1)) s (sym (cond-false (ltb (length (f .numbers)) 2) (Some (settled f k)) (then (round (k + 1) f) (rounds-from most (k + 1))) on) ∙ h) in
+          let g = next .0 in
+          let this = file-all-grows (k + 1) (blocks (k + 1) (f .numbers)) (f .rows) g (next .1) in
+          let e : suc k ≡ k + 1 = omega arith in
+          let all-new = round-addable (f .rows) codes source short names k (f .numbers) history in
+          let run : file-all (suc k) (blocks (suc k) (f .numbers)) (f .rows ++ []) ≡ Some g =
+          ap (file-all (suc k) (blocks (suc k) (f .numbers))) (append-nil (f .rows)) ∙ ap (λ i. file-all i (blocks i (f .numbers)) (f .rows)) e ∙ next .1 in
+          let g-law = filing-lawful (suc k) (f .rows) [] (blocks (suc k) (f .numbers)) g all-new (subst Lawful (sym (append-nil (f .rows))) law) run in
+          let g-names = subst (λ rs. Named rs (map leaf-block codes) source) (sym (this .grows)) (named-append (f .rows) (this .added) (map leaf-block codes) source names) in
+          let before = subst (λ rs. Comes rs k source (f .numbers)) (sym (this .grows)) (comes-append (f .rows) (this .added) k source (f .numbers) history) in
+          let g-history = subst (λ i. Comes (g .rows) i source (g .numbers)) e (f .numbers, before, subst (λ i. Named (g .rows) (blocks i (f .numbers)) (g .numbers)) (sym e) (this .names)) in
+          rounds-lawful most (k + 1) g s codes source short g-names g-history g-law (next .2)
     ]
 
 -- what settling a strip on lawful rows gives
@@ -303,12 +303,12 @@ unfolding rounds-from
 rounds-used zero k f s h = let e : settled f k ≡ s = cc in inr (sym (ap (λ g. g .rounds) e) ∙ (let z : k ≡ k + 0 = omega arith in z))
 rounds-used (suc most) k f s h =
     elim (cases-bool (ltb (length (f .numbers)) 2)) [
-      inl done ↦
-        let e : settled f k ≡ s = let g = sym (cond-true (ltb (length (f .numbers)) 2) (Some (settled f k)) (then (round (k + 1) f) (rounds-from most (k + 1))) done) ∙ h in cc in
-        inl (subst (λ g. length (g .numbers) < 2) e (ltb-true (length (f .numbers)) 2 done))
-    | inr on ↦
-        let next = then-some (round (k + 1) f) (rounds-from most (k + 1)) s (sym (cond-false (ltb (length (f .numbers)) 2) (Some (settled f k)) (then (round (k + 1) f) (rounds-from most (k + 1))) on) ∙ h) in
-        elim (rounds-used most (k + 1) (next .0) s (next .2)) [ inl few ↦ inl few | inr all ↦ inr (all ∙ (let z : k + 1 + most ≡ k + suc most = omega arith in z)) ]
+      | inl done ↦
+          let e : settled f k ≡ s = let g = sym (cond-true (ltb (length (f .numbers)) 2) (Some (settled f k)) (then (round (k + 1) f) (rounds-from most (k + 1))) done) ∙ h in cc in
+          inl (subst (λ g. length (g .numbers) < 2) e (ltb-true (length (f .numbers)) 2 done))
+      | inr on ↦
+          let next = then-some (round (k + 1) f) (rounds-from most (k + 1)) s (sym (cond-false (ltb (length (f .numbers)) 2) (Some (settled f k)) (then (round (k + 1) f) (rounds-from most (k + 1))) on) ∙ h) in
+          elim (rounds-used most (k + 1) (next .0) s (next .2)) [ inl few ↦ inl few | inr all ↦ inr (all ∙ (let z : k + 1 + most ≡ k + suc most = omega arith in z)) ]
     ]
 
 pub settles : (rows : List Row) (codes : List ℕ) (s : Settled) → Lawful rows → length codes ≤ 65535 → settle rows codes ≡ Some s → Settles rows codes s
@@ -317,7 +317,7 @@ settles rows codes s law short h =
     let f = pieces .0 in
     let first = file-all-grows 0 (map leaf-block codes) rows f (pieces .1) in
     let f-law : Lawful (f .rows) =
-        filing-lawful 0 rows [] (map leaf-block codes) f (leaves-addable rows codes) (subst Lawful (sym (append-nil rows)) law) (ap (file-all 0 (map leaf-block codes)) (append-nil rows) ∙ pieces .1) in
+    filing-lawful 0 rows [] (map leaf-block codes) f (leaves-addable rows codes) (subst Lawful (sym (append-nil rows)) law) (ap (file-all 0 (map leaf-block codes)) (append-nil rows) ∙ pieces .1) in
     let s-law = rounds-lawful (enough-rounds (length codes)) 0 f s codes (f .numbers) short (first .names) refl f-law (pieces .2) in
     let rest = rounds-grow (enough-rounds (length codes)) 0 f s (pieces .2) in
     let s-names = subst (λ rs. Named rs (map leaf-block codes) (f .numbers)) (sym (rest .1)) (named-append (f .rows) (rest .0) (map leaf-block codes) (f .numbers) (first .names)) in
@@ -334,7 +334,7 @@ settles rows codes s law short h =
       strips = comes-keeps (s .rows) all-parts (s .rounds) (f .numbers) (s .numbers) s-history ∙ leaves-keep (s .rows) all-parts codes (f .numbers) s-names;
       source = f .numbers;
       names = s-names;
-      history = s-history
+      history = s-history;
     }
   where
     at-most-one : (source : List ℕ) → (length (s .numbers) < 2) ⊎ (s .rounds ≡ 0 + enough-rounds (length codes)) → length source ≡ length codes → Known (s .rows) source
@@ -342,11 +342,11 @@ settles rows codes s law short h =
     at-most-one source (inl few) as-many numbers-known history rows-few = omega arith
     at-most-one source (inr all) as-many numbers-known history rows-few =
         elim (cases-lt (length (s .numbers)) 2) [
-          inl few ↦ omega arith
-        | inr many ↦
-            let few-rounds = rounds-few (s .rows) (suc (s .rounds)) (s .rounds) source (s .numbers) rows-few numbers-known history many (omega arith) in
-            let within = comes-shorter (s .rows) (s .rounds) source (s .numbers) history in
-            absurd (omega arith)
+          | inl few ↦ omega arith
+          | inr many ↦
+              let few-rounds = rounds-few (s .rows) (suc (s .rounds)) (s .rounds) source (s .numbers) rows-few numbers-known history many (omega arith) in
+              let within = comes-shorter (s .rows) (s .rounds) source (s .numbers) history in
+              absurd (omega arith)
         ]
 
 -- the strip of the number that a strip comes to is that strip

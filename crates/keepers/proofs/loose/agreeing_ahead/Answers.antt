@@ -5,7 +5,7 @@ use native.Mathlib.Omega.{arith}
 use lib.ListN.{length, drop}
 use Rattle.periodicity.specs.Agreement.{common}
 use Rattle.periodicity.proofs.Agreements.{count-ahead-more, count-ahead-stops, count-ahead-ends}
-use Rattle.keepers.proofs.Promises.{count-promised}
+use Rattle.keepers.proofs.Greatests.{count-greatest}
 use Rattle.keepers.proofs.loose.agreeing_ahead.Needs as need
 
 pub loop-n-again : need.loop-n-again
@@ -14,7 +14,7 @@ loop-n-again c =
 
 pub returns-then-strip-i : need.returns-then-strip-i
 returns-then-strip-i c =
-    count-promised _ _ (c .loop-n .n)
+    count-greatest _ _ (c .loop-n .n)
     (count-ahead-stops (c .args .strip .now) (c .args .i) (c .args .j) (c .loop-n .n) _ (c .loop-n .inv) (omega arith) (c .if-strip-i .taken))
 
 pub returns : need.returns
@@ -23,4 +23,4 @@ returns c =
     let right = drop (c .args .j) (c .args .strip .now) in
     let counted = count-ahead-ends (c .args .strip .now) (c .args .i) (c .args .j) (c .loop-n .n) (common left right) (c .loop-n .inv) (omega arith) in
     let all : length (c .args .strip .now) - c .max .result ≡ common left right = omega arith in
-    count-promised left right (length (c .args .strip .now) - c .max .result) all
+    count-greatest left right (length (c .args .strip .now) - c .max .result) all

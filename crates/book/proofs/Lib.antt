@@ -1,0 +1,3 @@
+pub mod CodeFacts
+pub mod TurnFacts
+pub mod RunFacts
