@@ -99,7 +99,7 @@ row-lawful-append rows more n within law =
     }
 
 pub row-lawful : (rows : List Row) → Lawful rows → (n : ℕ) → 0 < n → n ≤ length rows → Row-lawful rows n
-row-lawful rows law n some within = row-from-test rows n within (law .each n some within)
+row-lawful rows law n some within = row-from-test rows n within (law .1 n some within)
 
 pub lawful-parts : (rows : List Row) → Lawful rows → Parts rows
 lawful-parts rows law n some within = row-lawful rows law n some within .parts

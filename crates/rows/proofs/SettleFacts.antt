@@ -31,16 +31,14 @@ use Rattle.rows.proofs.StripFacts.{Parts, shape-strip, strip-added, strip-appe
 -- a lawful row added after lawful rows
 lawful-one-more : (rows : List Row) (row : Row) → Lawful rows → length rows < 1024 → Row-lawful (rows ++ (row ∷ [])) (length rows + 1) → Lawful (rows ++ (row ∷ []))
 lawful-one-more rows row law room new-row =
-    record {
-      few = omega (arith, length-push rows row);
-      each = λ n some within.
-          elim (cases-eq n (length rows + 1)) [
-            | inl last ↦ subst (λ k. lawful-row (rows ++ (row ∷ [])) k ≡ true) (sym last) (test-from-row (rows ++ (row ∷ [])) (length rows + 1) (omega (arith, length-push rows row)) new-row)
-            | inr earlier ↦
-                let old : n ≤ length rows = omega (arith, length-push rows row) in
-                test-from-row (rows ++ (row ∷ [])) n within (row-lawful-append rows (row ∷ []) n old (row-lawful rows law n some old))
-          ];
-    }
+    (omega (arith, length-push rows row),
+     λ n some within.
+       elim (cases-eq n (length rows + 1)) [
+         inl last ↦ subst (λ k. lawful-row (rows ++ (row ∷ [])) k ≡ true) (sym last) (test-from-row (rows ++ (row ∷ [])) (length rows + 1) (omega (arith, length-push rows row)) new-row)
+       | inr earlier ↦
+           let old : n ≤ length rows = omega (arith, length-push rows row) in
+           test-from-row (rows ++ (row ∷ [])) n within (row-lawful-append rows (row ∷ []) n old (row-lawful rows law n some old))
+       ])
 
 -- the parts of rows with one more
 parts-one-more : (rows : List Row) (row : Row) → Parts rows → parts-below (length rows + 1) (row .shape) ≡ true → Parts (rows ++ (row ∷ []))
@@ -329,7 +327,7 @@ settles rows codes s law short h =
       lawful = s-law;
       added = grown .0;
       grows = grown .1;
-      left = at-most-one (f .numbers) (rounds-used (enough-rounds (length codes)) 0 f s (pieces .2)) (length-named (s .rows) (map leaf-block codes) (f .numbers) s-names ∙ length-map codes leaf-block) source-known s-history (s-law .few);
+      left = at-most-one (f .numbers) (rounds-used (enough-rounds (length codes)) 0 f s (pieces .2)) (length-named (s .rows) (map leaf-block codes) (f .numbers) s-names ∙ length-map codes leaf-block) source-known s-history (s-law .0);
       known = comes-known (s .rows) (s .rounds) (f .numbers) (s .numbers) source-known s-history;
       strips = comes-keeps (s .rows) all-parts (s .rounds) (f .numbers) (s .numbers) s-history ∙ leaves-keep (s .rows) all-parts codes (f .numbers) s-names;
       source = f .numbers;

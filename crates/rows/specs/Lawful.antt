@@ -38,6 +38,5 @@ lawful-row rows n =
     && comes-to n (row-of rows n .round) (settle (take n rows) (strip rows n)))
 
 -- there are at most 1,024 rows, and each is lawful
-pub record Lawful (rows : List Row) : Type 0 where
-  pub few : length rows ≤ 1024
-  pub each : (n : ℕ) → 0 < n → n ≤ length rows → lawful-row rows n ≡ true
+abbrev pub Lawful : List Row → Type 0
+Lawful rows = (length rows ≤ 1024) × ((n : ℕ) → 0 < n → n ≤ length rows → lawful-row rows n ≡ true)
