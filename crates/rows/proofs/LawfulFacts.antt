@@ -99,7 +99,9 @@ row-lawful-append rows more n within law =
     }
 
 pub row-lawful : (rows : List Row) → Lawful rows → (n : ℕ) → 0 < n → n ≤ length rows → Row-lawful rows n
-row-lawful rows law n some within = row-from-test rows n within (law .1 n some within)
+row-lawful rows law n some within =
+    let e : n - 1 + 1 ≡ n = omega arith in
+    row-from-test rows n within (subst (λ k. lawful-row rows k ≡ true) e (law .1 (n - 1) (omega arith)))
 
 pub lawful-parts : (rows : List Row) → Lawful rows → Parts rows
 lawful-parts rows law n some within = row-lawful rows law n some within .parts

@@ -32,12 +32,14 @@ use Rattle.rows.proofs.StripFacts.{Parts, shape-strip, strip-added, strip-appe
 lawful-one-more : (rows : List Row) (row : Row) → Lawful rows → length rows < 1024 → Row-lawful (rows ++ (row ∷ [])) (length rows + 1) → Lawful (rows ++ (row ∷ []))
 lawful-one-more rows row law room new-row =
     (omega (arith, length-push rows row),
-     λ n some within.
-       elim (cases-eq n (length rows + 1)) [
-         inl last ↦ subst (λ k. lawful-row (rows ++ (row ∷ [])) k ≡ true) (sym last) (test-from-row (rows ++ (row ∷ [])) (length rows + 1) (omega (arith, length-push rows row)) new-row)
+     λ k within.
+       elim (cases-eq k (length rows)) [
+         inl last ↦
+           let e : length rows + 1 ≡ k + 1 = omega arith in
+           subst (λ n. lawful-row (rows ++ (row ∷ [])) n ≡ true) e (test-from-row (rows ++ (row ∷ [])) (length rows + 1) (omega (arith, length-push rows row)) new-row)
        | inr earlier ↦
-           let old : n ≤ length rows = omega (arith, length-push rows row) in
-           test-from-row (rows ++ (row ∷ [])) n within (row-lawful-append rows (row ∷ []) n old (row-lawful rows law n some old))
+           let old : k + 1 ≤ length rows = omega (arith, length-push rows row) in
+           test-from-row (rows ++ (row ∷ [])) (k + 1) (omega (arith, length-push rows row)) (row-lawful-append rows (row ∷ []) (k + 1) old (row-lawful rows law (k + 1) (omega arith) old))
        ])
 
 -- the parts of rows with one more

@@ -39,4 +39,4 @@ lawful-row rows n =
 
 -- there are at most 1,024 rows, and each is lawful
 abbrev pub Lawful : List Row → Type 0
-Lawful rows = (length rows ≤ 1024) × ((n : ℕ) → 0 < n → n ≤ length rows → lawful-row rows n ≡ true)
+Lawful rows = (length rows ≤ 1024) × ((k : ℕ) → k < length rows → lawful-row rows (k + 1) ≡ true)
