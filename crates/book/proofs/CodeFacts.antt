@@ -130,3 +130,16 @@ printed-codes coded (x ∷ cells) h = go (coded x) refl (printed-codes coded cel
     go (Some c) e rest =
         let others : mapped suc (first-unprintable coded cells) ≡ None = ap (λ o. cond (isSome o) (mapped suc (first-unprintable coded cells)) (Some 0)) (sym e) ∙ h in
         (e ∙ ap (λ o. Some (valueOr o 0)) (sym e), rest (none (first-unprintable coded cells) others))
+
+-- the code of one cell
+pub codes-at : {C : Type 0} (coded : C → Option ℕ) (cells : List C) (codes : List ℕ) (i : ℕ) (d : C) → Codes-of coded cells codes → i < length cells → coded (getD cells i d) ≡ Some (getD codes i 0)
+codes-at coded [] codes i d h within = absurd (omega arith)
+codes-at coded (x ∷ cells) [] i d h within = absurd h
+codes-at coded (x ∷ cells) (c ∷ codes) zero d h within = h .0
+codes-at coded (x ∷ cells) (c ∷ codes) (suc i) d h within = codes-at coded cells codes i d (h .1) (omega arith)
+
+pub length-codes : {C : Type 0} (coded : C → Option ℕ) (cells : List C) (codes : List ℕ) → Codes-of coded cells codes → length codes ≡ length cells
+length-codes coded [] [] h = refl
+length-codes coded [] (c ∷ codes) h = absurd h
+length-codes coded (x ∷ cells) [] h = absurd h
+length-codes coded (x ∷ cells) (c ∷ codes) h = ap suc (length-codes coded cells codes (h .1))

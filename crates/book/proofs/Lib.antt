@@ -1,3 +1,4 @@
 pub mod CodeFacts
 pub mod TurnFacts
 pub mod RunFacts
+pub mod CallFacts
