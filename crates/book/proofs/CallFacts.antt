@@ -8,7 +8,7 @@ use Prim.Native.Nat.{ℕ, _+_, min, _≤_, _<_}
 use native.Mathlib.Omega.{arith}
 use lib.Dec.{ltb, leb}
 use lib.ListN.{length, take, drop, length-take, length-drop, length-append, length-map}
-use Rattle.std.proofs.shelf.Tests.{cases-bool, cond-true, cond-false, and-from, and-left, and-right, le-leb, lt-leb, leb-true, leb-false}
+use Rattle.std.proofs.shelf.Tests.{cases-bool, cases-lt, cond-true, cond-false, and-from, and-left, and-right, le-leb, lt-leb, leb-true, leb-false}
 use Rattle.std.specs.Options.{valueOr}
 use Rattle.std.specs.shelf.Lists.{Each}
 use Rattle.std.specs.declared.option.Option.{Option}
@@ -91,6 +91,21 @@ module _ {C : Type 0} (coded : C → Option ℕ) (rows : List Row) (cells : List
           let is = cond-false (leb (length cells) 65535) (printing coded rows cells places (first-unprintable coded cells)) (refusing rows (refused 2)) long in
           absurd (let e : refused 2 ≡ answered n = ap (λ t. t .answer) (sym is) ∙ answer in let z : _≡_ {A = ℕ} 0 1 = cc in omega arith)
 
+  printing-lawful : (o : Option ℕ) → length cells ≤ 65535 → Lawful (printing coded rows cells places o .rows)
+  printing-lawful (Some place) short = law
+  printing-lawful None short = filing-lawful rows (printed coded cells) law (subst (λ k. k ≤ 65535) (sym (length-map cells (λ cell. valueOr (coded cell) 0))) short) places
+
+  pub taken-lawful : (same-kind : Bool) → Lawful (taken same-kind coded rows cells places .rows)
+  unfolding taken
+  taken-lawful false = law
+  taken-lawful true = by-length (cases-bool (leb (length cells) 65535))
+    where
+      by-length : (leb (length cells) 65535 ≡ true) ⊎ (leb (length cells) 65535 ≡ false) → Lawful (cond (leb (length cells) 65535) (printing coded rows cells places (first-unprintable coded cells)) (refusing rows (refused 2)) .rows)
+      by-length (inl short) =
+          subst (λ t. Lawful (t .rows)) (sym (cond-true (leb (length cells) 65535) (printing coded rows cells places (first-unprintable coded cells)) (refusing rows (refused 2)) short))
+          (printing-lawful (first-unprintable coded cells) (leb-true (length cells) 65535 short))
+      by-length (inr long) = subst (λ t. Lawful (t .rows)) (sym (cond-false (leb (length cells) 65535) (printing coded rows cells places (first-unprintable coded cells)) (refusing rows (refused 2)) long)) law
+
 -- what was taken and is written out has the same cells, also when rows were added since
 pub written-back : {C : Type 0} (coded : C → Option ℕ) (has : ℕ → Bool) (given : ℕ → C) (same : C → C → Type 0) → Kind-laws coded has given same
     → (same-kind : Bool) (rows : List Row) (cells : List C) (places : ℕ) → Lawful rows → (n : ℕ) → taken same-kind coded rows cells places .answer ≡ answered n
@@ -135,3 +150,34 @@ module _ (rows : List Row) (n start size places : ℕ) where
   pub cut-filed : n ≤ length rows → start + size ≤ length (strip rows n) → cut-out rows n start size places ≡ filing rows (part-of rows n start size) places
   unfolding cut-out
   cut-filed within inside = cond-true (is-known rows n) _ _ (le-leb n (length rows) within) ∙ cond-true (leb (start + size) (length (strip rows n))) _ _ (le-leb (start + size) (length (strip rows n)) inside)
+
+-- joining and cutting keep rows lawful
+pub joined-lawful : (rows : List Row) (left right places : ℕ) → Lawful rows → Lawful (joined-up rows left right places .rows)
+joined-lawful rows left right places law =
+    elim (cases-lt (length rows) left) [
+      inl past ↦ subst (λ t. Lawful (t .rows)) (sym (joined-unknown rows left right places (inl past))) law
+    | inr left-known ↦
+        elim (cases-lt (length rows) right) [
+          inl past ↦ subst (λ t. Lawful (t .rows)) (sym (joined-unknown rows left right places (inr past))) law
+        | inr right-known ↦
+            elim (cases-lt 65535 (length (strip rows left) + length (strip rows right))) [
+              inl long ↦ subst (λ t. Lawful (t .rows)) (sym (joined-long rows left right places left-known right-known long)) law
+            | inr short ↦
+                subst (λ t. Lawful (t .rows)) (sym (joined-filed rows left right places left-known right-known short))
+                (filing-lawful rows (strip rows left ++ strip rows right) law (omega (arith, length-append (strip rows left) (strip rows right))) places)
+            ]
+        ]
+    ]
+
+pub cut-lawful : (rows : List Row) (n start size places : ℕ) → Lawful rows → Lawful (cut-out rows n start size places .rows)
+cut-lawful rows n start size places law =
+    elim (cases-lt (length rows) n) [
+      inl past ↦ subst (λ t. Lawful (t .rows)) (sym (cut-unknown rows n start size places past)) law
+    | inr within ↦
+        elim (cases-lt (length (strip rows n)) (start + size)) [
+          inl past ↦ subst (λ t. Lawful (t .rows)) (sym (cut-leaves rows n start size places within past)) law
+        | inr inside ↦
+            let fits : length (part-of rows n start size) ≤ 65535 = simp (length-take, length-drop) (omega (arith, strip-short rows law n)) in
+            subst (λ t. Lawful (t .rows)) (sym (cut-filed rows n start size places within inside)) (filing-lawful rows (part-of rows n start size) law fits places)
+        ]
+    ]

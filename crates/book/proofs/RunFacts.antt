@@ -86,3 +86,16 @@ module _ {C : Type 0} (same-kind : Bool) (coded : C → Option ℕ) (has : ℕ �
         λ equal. same-from-codes coded has given same laws xs ys (left .0) (right .0) (left .2) (right .2) (numbers .0 equal),
         λ each. numbers .1 (codes-from-same coded has given same laws xs ys (left .0) (right .0) (left .2) (right .2) each),
       )
+
+-- one call more at the end of a list
+module _ {C : Type 0} (same-kind : Bool) (coded : C → Option ℕ) where
+  pub rows-push : (rows : List Row) (sents : List (Sent C)) (sent : Sent C)
+      → rows-after same-kind coded rows (sents ++ (sent ∷ [])) ≡ turn same-kind coded (rows-after same-kind coded rows sents) (sent .call) (sent .places) .rows
+  rows-push rows [] sent = refl
+  rows-push rows (s ∷ sents) sent = rows-push (turn same-kind coded rows (s .call) (s .places) .rows) sents sent
+
+  pub answers-push : (rows : List Row) (sents : List (Sent C)) (sent : Sent C)
+      → answers-of same-kind coded rows (sents ++ (sent ∷ [])) ≡ answers-of same-kind coded rows sents ++ (turn same-kind coded (rows-after same-kind coded rows sents) (sent .call) (sent .places) .answer ∷ [])
+  answers-push rows [] sent = refl
+  answers-push rows (s ∷ sents) sent =
+      ap (λ xs. turn same-kind coded rows (s .call) (s .places) .answer ∷ xs) (answers-push (turn same-kind coded rows (s .call) (s .places) .rows) sents sent)
