@@ -8,6 +8,7 @@ use Prim.Native.Nat.{ℕ, _+_, min, _≤_, _<_}
 use native.Mathlib.Omega.{arith}
 use lib.Dec.{ltb, leb}
 use lib.ListN.{length, take, drop, length-take, length-drop, length-append, length-map}
+use Rattle.std.proofs.shelf.Elements.{all-append}
 use Rattle.std.proofs.shelf.Tests.{cases-bool, cases-lt, cond-true, cond-false, and-from, and-left, and-right, le-leb, lt-leb, leb-true, leb-false}
 use Rattle.std.specs.Options.{valueOr}
 use Rattle.std.specs.shelf.Lists.{Each}
@@ -20,8 +21,10 @@ use Rattle.rows.specs.Rounds.{Settled, settle, number-left}
 use Rattle.rows.specs.Strips.{strip}
 use Rattle.rows.proofs.OneNumber.{Stands, settled-stands, stands-append}
 use Rattle.rows.proofs.SettleFacts.{Settles, settles}
+use Rattle.rows.proofs.ShapeFacts.{settle-shapes}
 use Rattle.book.specs.Calls.{Answer, answered, refused, refused-at, Turn, refusing, settling, filing, printed, printing, taken, is-known, joined-up, part-of, cut-out}
-use Rattle.book.proofs.CodeFacts.{Kind-laws, Codes-of, codes-given, has-codes, same-from-codes, printed-codes}
+use Rattle.book.specs.Laws.{leaf-of-kind, Of-kind}
+use Rattle.book.proofs.CodeFacts.{Kind-laws, Codes-of, Has-all, has-take, has-drop, strip-has, codes-given, has-codes, same-from-codes, printed-codes}
 use Rattle.book.proofs.RunFacts.{strip-short}
 
 -- a strip that is filed
@@ -34,8 +37,8 @@ module _ (rows : List Row) (codes : List ℕ) (law : Lawful rows) (short : lengt
   unfolding filing
   filing-lawful places =
       elim (cases-bool (ltb places (length codes))) [
-        inl few ↦ subst (λ t. Lawful (t .rows)) (sym (cond-true (ltb places (length codes)) (refusing rows (refused 4)) (settling rows (settle rows codes)) few)) law
-      | inr enough ↦ subst (λ t. Lawful (t .rows)) (sym (cond-false (ltb places (length codes)) (refusing rows (refused 4)) (settling rows (settle rows codes)) enough)) (settling-lawful (settle rows codes) refl)
+        | inl few ↦ subst (λ t. Lawful (t .rows)) (sym (cond-true (ltb places (length codes)) (refusing rows (refused 4)) (settling rows (settle rows codes)) few)) law
+        | inr enough ↦ subst (λ t. Lawful (t .rows)) (sym (cond-false (ltb places (length codes)) (refusing rows (refused 4)) (settling rows (settle rows codes)) enough)) (settling-lawful (settle rows codes) refl)
       ]
 
   settling-stands : (o : Option Settled) → settle rows codes ≡ o → (n : ℕ) → settling rows o .answer ≡ answered n → Stands (settling rows o .rows) codes n
@@ -46,12 +49,12 @@ module _ (rows : List Row) (codes : List ℕ) (law : Lawful rows) (short : lengt
   unfolding filing
   filing-stands places n answer =
       elim (cases-bool (ltb places (length codes))) [
-        inl few ↦
-          let is = cond-true (ltb places (length codes)) (refusing rows (refused 4)) (settling rows (settle rows codes)) few in
-          absurd (let e : refused 4 ≡ answered n = ap (λ t. t .answer) (sym is) ∙ answer in let z : _≡_ {A = ℕ} 0 1 = cc in omega arith)
-      | inr enough ↦
-          let is = cond-false (ltb places (length codes)) (refusing rows (refused 4)) (settling rows (settle rows codes)) enough in
-          subst (λ t. Stands (t .rows) codes n) (sym is) (settling-stands (settle rows codes) refl n (ap (λ t. t .answer) (sym is) ∙ answer))
+        | inl few ↦
+            let is = cond-true (ltb places (length codes)) (refusing rows (refused 4)) (settling rows (settle rows codes)) few in
+            absurd (let e : refused 4 ≡ answered n = ap (λ t. t .answer) (sym is) ∙ answer in let z : _≡_ {A = ℕ} 0 1 = cc in omega arith)
+        | inr enough ↦
+            let is = cond-false (ltb places (length codes)) (refusing rows (refused 4)) (settling rows (settle rows codes)) enough in
+            subst (λ t. Stands (t .rows) codes n) (sym is) (settling-stands (settle rows codes) refl n (ap (λ t. t .answer) (sym is) ∙ answer))
       ]
 
 -- taking, check by check
@@ -155,29 +158,75 @@ module _ (rows : List Row) (n start size places : ℕ) where
 pub joined-lawful : (rows : List Row) (left right places : ℕ) → Lawful rows → Lawful (joined-up rows left right places .rows)
 joined-lawful rows left right places law =
     elim (cases-lt (length rows) left) [
-      inl past ↦ subst (λ t. Lawful (t .rows)) (sym (joined-unknown rows left right places (inl past))) law
-    | inr left-known ↦
-        elim (cases-lt (length rows) right) [
-          inl past ↦ subst (λ t. Lawful (t .rows)) (sym (joined-unknown rows left right places (inr past))) law
-        | inr right-known ↦
-            elim (cases-lt 65535 (length (strip rows left) + length (strip rows right))) [
-              inl long ↦ subst (λ t. Lawful (t .rows)) (sym (joined-long rows left right places left-known right-known long)) law
-            | inr short ↦
-                subst (λ t. Lawful (t .rows)) (sym (joined-filed rows left right places left-known right-known short))
-                (filing-lawful rows (strip rows left ++ strip rows right) law (omega (arith, length-append (strip rows left) (strip rows right))) places)
-            ]
-        ]
+      | inl past ↦ subst (λ t. Lawful (t .rows)) (sym (joined-unknown rows left right places (inl past))) law
+      | inr left-known ↦
+          elim (cases-lt (length rows) right) [
+            | inl past ↦ subst (λ t. Lawful (t .rows)) (sym (joined-unknown rows left right places (inr past))) law
+            | inr right-known ↦
+                elim (cases-lt 65535 (length (strip rows left) + length (strip rows right))) [
+                  | inl long ↦ subst (λ t. Lawful (t .rows)) (sym (joined-long rows left right places left-known right-known long)) law
+                  | inr short ↦
+                      subst (λ t. Lawful (t .rows)) (sym (joined-filed rows left right places left-known right-known short))
+                      (filing-lawful rows (strip rows left ++ strip rows right) law (omega (arith, length-append (strip rows left) (strip rows right))) places)
+                ]
+          ]
     ]
 
 pub cut-lawful : (rows : List Row) (n start size places : ℕ) → Lawful rows → Lawful (cut-out rows n start size places .rows)
 cut-lawful rows n start size places law =
     elim (cases-lt (length rows) n) [
-      inl past ↦ subst (λ t. Lawful (t .rows)) (sym (cut-unknown rows n start size places past)) law
-    | inr within ↦
-        elim (cases-lt (length (strip rows n)) (start + size)) [
-          inl past ↦ subst (λ t. Lawful (t .rows)) (sym (cut-leaves rows n start size places within past)) law
-        | inr inside ↦
-            let fits : length (part-of rows n start size) ≤ 65535 = simp (length-take, length-drop) (omega (arith, strip-short rows law n)) in
-            subst (λ t. Lawful (t .rows)) (sym (cut-filed rows n start size places within inside)) (filing-lawful rows (part-of rows n start size) law fits places)
-        ]
+      | inl past ↦ subst (λ t. Lawful (t .rows)) (sym (cut-unknown rows n start size places past)) law
+      | inr within ↦
+          elim (cases-lt (length (strip rows n)) (start + size)) [
+            | inl past ↦ subst (λ t. Lawful (t .rows)) (sym (cut-leaves rows n start size places within past)) law
+            | inr inside ↦
+                let fits : length (part-of rows n start size) ≤ 65535 = simp (length-take, length-drop) (omega (arith, strip-short rows law n)) in
+                subst (λ t. Lawful (t .rows)) (sym (cut-filed rows n start size places within inside)) (filing-lawful rows (part-of rows n start size) law fits places)
+          ]
     ]
+
+-- calls keep rows of their kind
+module _ (has : ℕ → Bool) (rows : List Row) (kinds : Of-kind has rows) where
+  settling-of-kind : (codes : List ℕ) → Has-all has codes → (o : Option Settled) → settle rows codes ≡ o → Of-kind has (settling rows o .rows)
+  settling-of-kind codes has-all None is = kinds
+  settling-of-kind codes has-all (Some s) is = settle-shapes (leaf-of-kind has) (λ l r. tt) (λ p m. tt) rows codes s kinds has-all is
+
+  filing-of-kind : (codes : List ℕ) (places : ℕ) → Has-all has codes → Of-kind has (filing rows codes places .rows)
+  unfolding filing
+  filing-of-kind codes places has-all =
+      elim (cases-bool (ltb places (length codes))) [
+        inl few ↦ subst (λ t. Of-kind has (t .rows)) (sym (cond-true (ltb places (length codes)) (refusing rows (refused 4)) (settling rows (settle rows codes)) few)) kinds
+      | inr enough ↦
+          subst (λ t. Of-kind has (t .rows)) (sym (cond-false (ltb places (length codes)) (refusing rows (refused 4)) (settling rows (settle rows codes)) enough))
+          (settling-of-kind codes has-all (settle rows codes) refl)
+      ]
+
+  pub joined-of-kind : (left right places : ℕ) → Of-kind has (joined-up rows left right places .rows)
+  joined-of-kind left right places =
+      elim (cases-lt (length rows) left) [
+        inl past ↦ subst (λ t. Of-kind has (t .rows)) (sym (joined-unknown rows left right places (inl past))) kinds
+      | inr left-known ↦
+          elim (cases-lt (length rows) right) [
+            inl past ↦ subst (λ t. Of-kind has (t .rows)) (sym (joined-unknown rows left right places (inr past))) kinds
+          | inr right-known ↦
+              elim (cases-lt 65535 (length (strip rows left) + length (strip rows right))) [
+                inl long ↦ subst (λ t. Of-kind has (t .rows)) (sym (joined-long rows left right places left-known right-known long)) kinds
+              | inr short ↦
+                  subst (λ t. Of-kind has (t .rows)) (sym (joined-filed rows left right places left-known right-known short))
+                  (filing-of-kind (strip rows left ++ strip rows right) places (all-append (λ c. has c ≡ true) (strip rows left) (strip rows right) (strip-has has rows left kinds) (strip-has has rows right kinds)))
+              ]
+          ]
+      ]
+
+  pub cut-of-kind : (n start size places : ℕ) → Of-kind has (cut-out rows n start size places .rows)
+  cut-of-kind n start size places =
+      elim (cases-lt (length rows) n) [
+        inl past ↦ subst (λ t. Of-kind has (t .rows)) (sym (cut-unknown rows n start size places past)) kinds
+      | inr within ↦
+          elim (cases-lt (length (strip rows n)) (start + size)) [
+            inl past ↦ subst (λ t. Of-kind has (t .rows)) (sym (cut-leaves rows n start size places within past)) kinds
+          | inr inside ↦
+              subst (λ t. Of-kind has (t .rows)) (sym (cut-filed rows n start size places within inside))
+              (filing-of-kind (part-of rows n start size) places (has-take has size (drop start (strip rows n)) (has-drop has start (strip rows n) (strip-has has rows n kinds))))
+          ]
+      ]

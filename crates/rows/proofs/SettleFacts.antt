@@ -30,17 +30,18 @@ use Rattle.rows.proofs.StripFacts.{Parts, shape-strip, strip-added, strip-appe
 
 -- a lawful row added after lawful rows
 lawful-one-more : (rows : List Row) (row : Row) → Lawful rows → length rows < 1024 → Row-lawful (rows ++ (row ∷ [])) (length rows + 1) → Lawful (rows ++ (row ∷ []))
-lawful-one-more rows row law room new-row =
-    (omega (arith, length-push rows row),
-     λ k within.
-       elim (cases-eq k (length rows)) [
-         inl last ↦
-           let e : length rows + 1 ≡ k + 1 = omega arith in
-           subst (λ n. lawful-row (rows ++ (row ∷ [])) n ≡ true) e (test-from-row (rows ++ (row ∷ [])) (length rows + 1) (omega (arith, length-push rows row)) new-row)
-       | inr earlier ↦
-           let old : k + 1 ≤ length rows = omega (arith, length-push rows row) in
-           test-from-row (rows ++ (row ∷ [])) (k + 1) (omega (arith, length-push rows row)) (row-lawful-append rows (row ∷ []) (k + 1) old (row-lawful rows law (k + 1) (omega arith) old))
-       ])
+lawful-one-more rows row law room new-row = (
+  omega (arith, length-push rows row),
+  λ k within.
+      elim (cases-eq k (length rows)) [
+        | inl last ↦
+            let e : length rows + 1 ≡ k + 1 = omega arith in
+            subst (λ n. lawful-row (rows ++ (row ∷ [])) n ≡ true) e (test-from-row (rows ++ (row ∷ [])) (length rows + 1) (omega (arith, length-push rows row)) new-row)
+        | inr earlier ↦
+            let old : k + 1 ≤ length rows = omega (arith, length-push rows row) in
+            test-from-row (rows ++ (row ∷ [])) (k + 1) (omega (arith, length-push rows row)) (row-lawful-append rows (row ∷ []) (k + 1) old (row-lawful rows law (k + 1) (omega arith) old))
+      ],
+)
 
 -- the parts of rows with one more
 parts-one-more : (rows : List Row) (row : Row) → Parts rows → parts-below (length rows + 1) (row .shape) ≡ true → Parts (rows ++ (row ∷ []))

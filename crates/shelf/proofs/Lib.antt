@@ -1,0 +1,7 @@
+mod RowFacts
+mod LeafLoop
+mod Settlings
+mod CellLoop
+mod Expanding
+mod Joining
+mod SendLoop
