@@ -2,10 +2,11 @@
 
 ghost use mathlib.Core.Bool.{true};
 ghost use mathlib.Core.Path.{_≡_};
-ghost use Prim.Native.Nat.{_+_, _≤_, _<_};
+ghost use Prim.Native.Nat.{_+_, _-_, _*_, _/_, min, _≤_, _<_};
 ghost use lib.ListN.{length};
 ghost use Rattle.periodicity.specs.Fragments.{cut};
 ghost use Rattle.periodicity.specs.Overlaps.{is-overlap};
+ghost use Rattle.periodicity.specs.Progressions.{triple};
 ghost use Rattle.periodicity.specs.Ranges.{Greatest-from, Tells};
 ghost use Rattle.questions.specs.Answers.{Overlaps-law};
 ghost use Rattle.questions.specs.Outcomes.{outcome, overlaps-outcome};
@@ -40,6 +41,41 @@ fn longest_overlap<K: Keeper>(
     None
 }
 
+// The end of the lengths to look at: below twice `least`, and as long as both fragments have room for.
+fn lengths_end(least: usize, room: usize) -> usize
+    requires some { ⌜ least ≤ room ⌝ }
+    requires short { ⌜ room ≤ 65535 ⌝ }
+    ensures { λ r. ⌜ r ≡ min (least + least) (room + 1) ⌝ }
+{
+    (least + least).min(room + 1)
+}
+
+// The greatest two overlaps from `least` on.
+#[derive(Clone, Copy)]
+struct LongestTwo {
+    longest: usize,
+    next: usize,
+    least: usize,
+}
+
+impl LongestTwo {
+    // One overlap at each step from the longest down, as far as the least; told from the shortest up.
+    fn progression(self) -> Progression
+        requires some { ⌜ 0 < self .least ⌝ }
+        requires low { ⌜ self .least ≤ self .next ⌝ }
+        requires apart { ⌜ self .next < self .longest ⌝ }
+        ensures { λ r. ⌜ r ≡ triple (self .longest - ((self .longest - self .least) / (self .longest - self .next)) * (self .longest - self .next)) (self .longest - self .next) (1 + (self .longest - self .least) / (self .longest - self .next)) ⌝ }
+    {
+        let step = self.longest - self.next;
+        let shorter = (self.longest - self.least) / step;
+        Progression {
+            first: self.longest - shorter * step,
+            step,
+            count: 1 + shorter,
+        }
+    }
+}
+
 // All overlaps of lengths from `least` on and below twice `least`. The greatest two fix the step, and with
 // it all shorter ones, since each is shorter by a period of the greatest.
 pub(crate) fn overlaps_from<K: Keeper>(
@@ -57,7 +93,7 @@ pub(crate) fn overlaps_from<K: Keeper>(
     if least > room {
         return None;
     }
-    let end = (least + least).min(room + 1);
+    let end = lengths_end(least, room);
     let Some(longest) = longest_overlap(keeper, first, second, least, end) else {
         return None;
     };
@@ -68,13 +104,12 @@ pub(crate) fn overlaps_from<K: Keeper>(
             count: 1,
         });
     };
-    let step = longest - next;
-    let shorter = (longest - least) / step;
-    Some(Progression {
-        first: longest - shorter * step,
-        step,
-        count: 1 + shorter,
-    })
+    let two = LongestTwo {
+        longest,
+        next,
+        least,
+    };
+    Some(two.progression())
 }
 
 // All lengths from `least` to `2 * least - 1` of suffixes of the second fragment that are prefixes of the

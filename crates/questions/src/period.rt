@@ -2,11 +2,11 @@
 
 ghost use mathlib.Core.List.{_++_};
 ghost use mathlib.Core.Path.{_≡_};
-ghost use Prim.Native.Nat.{_+_, _-_, _≤_, _<_};
+ghost use Prim.Native.Nat.{_+_, _-_, _*_, _≤_, _<_};
 ghost use lib.ListN.{length, take, drop, replicate};
 ghost use Rattle.periodicity.specs.Fragments.{cut};
 ghost use Rattle.periodicity.specs.Periods.{periods-in, records-below};
-ghost use Rattle.periodicity.specs.Progressions.{told, triple};
+ghost use Rattle.periodicity.specs.Progressions.{told, triple, mirrored};
 ghost use Rattle.questions.specs.Answers.{Periods-law};
 ghost use Rattle.questions.specs.Outcomes.{outcome, checked, periods-check, after-periods};
 use crate::extension::lies_in;
@@ -19,6 +19,31 @@ use periodicity::Progression;
 // How many records the periods of a fragment take at most: borders are below 2^16, which makes 16 ranges,
 // and border 0 makes the last record.
 pub const RECORDS: usize = 17;
+
+// The record of the length itself, whose border is empty.
+fn length_record(fragment: Fragment) -> Progression
+    ensures { λ r. ⌜ r ≡ triple (fragment .length) 0 1 ⌝ }
+{
+    Progression {
+        first: fragment.length,
+        step: 0,
+        count: 1,
+    }
+}
+
+// The record of the periods that belong to a progression of borders: the greatest border makes the first.
+fn borders_record(fragment: Fragment, borders: Progression) -> Progression
+    requires some { ⌜ 1 ≤ borders .count ⌝ }
+    requires short { ⌜ borders .first + (borders .count - 1) * borders .step ≤ fragment .length ⌝ }
+    ensures { λ r. ⌜ r ≡ mirrored (fragment .length) borders ⌝ }
+{
+    let greatest = borders.first + (borders.count - 1) * borders.step;
+    Progression {
+        first: fragment.length - greatest,
+        step: borders.step,
+        count: borders.count,
+    }
+}
 
 // The record of the periods whose borders are from 2^range to 2^(range + 1) - 1. A border shorter than the
 // fragment is an overlap of the fragment without its last code and without its first.
@@ -40,12 +65,7 @@ fn range_record<K: Keeper>(keeper: &K, fragment: Fragment, range: u32) -> Option
     let Some(borders) = overlaps_from(keeper, front, back, 1 << range) else {
         return None;
     };
-    let greatest = borders.first + (borders.count - 1) * borders.step;
-    Some(Progression {
-        first: fragment.length - greatest,
-        step: borders.step,
-        count: borders.count,
-    })
+    Some(borders_record(fragment, borders))
 }
 
 // Writes the records of the 16 ranges, greatest borders first, and says how many there are.
@@ -104,11 +124,7 @@ pub fn periods<K: Keeper>(
         return Err(Refusal::TooFewRecords);
     }
     let used = write_ranges(keeper, fragment, records);
-    records[used] = Progression {
-        first: fragment.length,
-        step: 0,
-        count: 1,
-    };
+    records[used] = length_record(fragment);
     clear_unused(records, used + 1);
     Ok(())
 }

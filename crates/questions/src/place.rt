@@ -2,9 +2,11 @@
 
 ghost use mathlib.Core.Bool.{true};
 ghost use mathlib.Core.Path.{_≡_};
-ghost use Prim.Native.Nat.{_+_, _-_, _*_, _≤_, _<_};
+ghost use Prim.Native.Nat.{_+_, _-_, _*_, _/_, min, _≤_, _<_};
+ghost use lib.Dec.{leb};
 ghost use lib.ListN.{length};
 ghost use Rattle.periodicity.specs.Places.{is-place};
+ghost use Rattle.periodicity.specs.Progressions.{triple};
 ghost use Rattle.periodicity.specs.Ranges.{Least-from, Tells};
 ghost use Rattle.questions.specs.Answers.{Places-law};
 ghost use Rattle.questions.specs.Outcomes.{outcome, places-outcome};
@@ -29,6 +31,36 @@ fn next_place<K: Keeper>(keeper: &K, pattern: Fragment, from: usize, end: usize)
     None
 }
 
+// The first two places in a field, and the end of the starts that it has room for.
+#[derive(Clone, Copy)]
+struct FirstTwo {
+    first: usize,
+    second: usize,
+    end: usize,
+}
+
+impl FirstTwo {
+    // One place at each step from the first on, as far as whole patterns repeat by the step and the field
+    // has room. The strip agrees with itself for `agreeing` codes from the two places on, so that it
+    // repeats for a step more.
+    fn progression(self, pattern: Fragment, agreeing: usize) -> Progression
+        requires apart { ⌜ self .first < self .second ⌝ }
+        requires ends { ⌜ self .second < self .end ⌝ }
+        requires whole { ⌜ pattern .length ≤ agreeing ⌝ }
+        requires short { ⌜ self .second + agreeing ≤ 65535 ⌝ }
+        ensures { λ r. ⌜ r ≡ triple (self .first) (self .second - self .first) (1 + min (self .second - self .first + agreeing - pattern .length) (self .end - 1 - self .first) / (self .second - self .first)) ⌝ }
+    {
+        let step = self.second - self.first;
+        let repeating = step + agreeing;
+        let reach = (repeating - pattern.length).min(self.end - 1 - self.first);
+        Progression {
+            first: self.first,
+            step,
+            count: 1 + reach / step,
+        }
+    }
+}
+
 // All places in a field shorter than twice the pattern. The first two fix the step, since places so near
 // to each other stand in a progression; how far the strip repeats by that step fixes the count.
 fn places_in<K: Keeper>(keeper: &K, pattern: Fragment, field: Fragment) -> Option<Progression>
@@ -51,14 +83,16 @@ fn places_in<K: Keeper>(keeper: &K, pattern: Fragment, field: Fragment) -> Optio
             count: 1,
         });
     };
-    let step = second - first;
-    let repeating = step + common_ahead(keeper, first, second);
-    let reach = (repeating - pattern.length).min(end - 1 - first);
-    Some(Progression {
-        first,
-        step,
-        count: 1 + reach / step,
-    })
+    let agreeing = common_ahead(keeper, first, second);
+    let two = FirstTwo { first, second, end };
+    Some(two.progression(pattern, agreeing))
+}
+
+// Whether the field is at least twice as long as the pattern; any numbers will do.
+fn is_too_long(field: Fragment, pattern: Fragment) -> bool
+    ensures { λ r. ⌜ r ≡ leb (2 * pattern .length) (field .length) ⌝ }
+{
+    field.length / 2 >= pattern.length
 }
 
 // All starts, counted in the strip, of parts of the field that have the pattern's length and codes.
@@ -73,7 +107,7 @@ pub fn places<K: Keeper>(
     if !lies_in(keeper, pattern) || !lies_in(keeper, field) {
         return Err(Refusal::FragmentLeavesStrip);
     }
-    if field.length / 2 >= pattern.length {
+    if is_too_long(field, pattern) {
         return Err(Refusal::FieldTooLong);
     }
     Ok(places_in(keeper, pattern, field))

@@ -32,9 +32,9 @@ returns g c =
     let unchecked : periods-check xs fragment (length old) ≡ None = grind (arith, tells) in
     let fits : fragment .start + fragment .length ≤ length xs = leb-true (fragment .start + fragment .length) (length xs) lies in
     let long = length-part xs (fragment .start) (fragment .length) fits in
-    let last = ap (λ n. set before used (triple n 0 1)) (sym long) in
+    let last = ap (set before used) (c .length-record .ensures) ∙ ap (λ n. set before used (triple n 0 1)) (sym long) in
     let few = c .write-ranges-used .ensures .few in
-    let all = all-written w before (set before used (triple (fragment .length) 0 1)) after old used few (omega arith)
+    let all = all-written w before (set before used (c .length-record .result)) after old used few (omega arith)
     (c .write-ranges-used .ensures .written) (c .write-ranges-used .ensures .rest) last (c .clear-unused .ensures) in
     let named = written-name-all w (omega arith) (omega (arith, g .K·Keeper .short (c .args .keeper .now))) in
     record {
