@@ -4,3 +4,4 @@ mod Agreement
 mod Places
 mod Overlaps
 mod Periods
+mod Shelf

@@ -5,4 +5,5 @@ pub mod Agreement
 pub mod Places
 pub mod Overlaps
 pub mod Periods
+pub mod Shelf
 pub mod Table

@@ -5,6 +5,7 @@ use Rattle.worked.specs.Agreement.{agreement-examples}
 use Rattle.worked.specs.Places.{places-examples}
 use Rattle.worked.specs.Overlaps.{overlaps-examples}
 use Rattle.worked.specs.Periods.{periods-examples}
+use Rattle.worked.specs.Shelf.{shelf-examples}
 
 abbrev pub worked-table : Examples
-worked-table = agreement-examples ++ (places-examples ++ (overlaps-examples ++ periods-examples))
+worked-table = agreement-examples ++ (places-examples ++ (overlaps-examples ++ (periods-examples ++ shelf-examples)))

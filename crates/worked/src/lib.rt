@@ -18,10 +18,13 @@ const OVERLAPS: usize = 10;
 // .. of the periods of a fragment.
 const PERIODS: usize = 14;
 
+// .. of the rows and rounds of a shelf.
+const SHELF: usize = 13;
+
 // Every example of the table holds, and so many there are.
 pub fn worked_examples() -> usize
     ensures hold { λ _. ⌜ All-hold worked-table ⌝ }
     ensures counted { λ r. ⌜ r ≡ length worked-table ⌝ }
 {
-    AGREEMENT + PLACES + OVERLAPS + PERIODS
+    AGREEMENT + PLACES + OVERLAPS + PERIODS + SHELF
 }

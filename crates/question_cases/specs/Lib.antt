@@ -1,0 +1,3 @@
+-- What the program counts and prints, and the texts that it compares.
+pub mod Cases
+pub mod Tallies
