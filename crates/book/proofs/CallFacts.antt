@@ -195,38 +195,38 @@ module _ (has : ℕ → Bool) (rows : List Row) (kinds : Of-kind has rows) where
   unfolding filing
   filing-of-kind codes places has-all =
       elim (cases-bool (ltb places (length codes))) [
-        inl few ↦ subst (λ t. Of-kind has (t .rows)) (sym (cond-true (ltb places (length codes)) (refusing rows (refused 4)) (settling rows (settle rows codes)) few)) kinds
-      | inr enough ↦
-          subst (λ t. Of-kind has (t .rows)) (sym (cond-false (ltb places (length codes)) (refusing rows (refused 4)) (settling rows (settle rows codes)) enough))
-          (settling-of-kind codes has-all (settle rows codes) refl)
+        | inl few ↦ subst (λ t. Of-kind has (t .rows)) (sym (cond-true (ltb places (length codes)) (refusing rows (refused 4)) (settling rows (settle rows codes)) few)) kinds
+        | inr enough ↦
+            subst (λ t. Of-kind has (t .rows)) (sym (cond-false (ltb places (length codes)) (refusing rows (refused 4)) (settling rows (settle rows codes)) enough))
+            (settling-of-kind codes has-all (settle rows codes) refl)
       ]
 
   pub joined-of-kind : (left right places : ℕ) → Of-kind has (joined-up rows left right places .rows)
   joined-of-kind left right places =
       elim (cases-lt (length rows) left) [
-        inl past ↦ subst (λ t. Of-kind has (t .rows)) (sym (joined-unknown rows left right places (inl past))) kinds
-      | inr left-known ↦
-          elim (cases-lt (length rows) right) [
-            inl past ↦ subst (λ t. Of-kind has (t .rows)) (sym (joined-unknown rows left right places (inr past))) kinds
-          | inr right-known ↦
-              elim (cases-lt 65535 (length (strip rows left) + length (strip rows right))) [
-                inl long ↦ subst (λ t. Of-kind has (t .rows)) (sym (joined-long rows left right places left-known right-known long)) kinds
-              | inr short ↦
-                  subst (λ t. Of-kind has (t .rows)) (sym (joined-filed rows left right places left-known right-known short))
-                  (filing-of-kind (strip rows left ++ strip rows right) places (all-append (λ c. has c ≡ true) (strip rows left) (strip rows right) (strip-has has rows left kinds) (strip-has has rows right kinds)))
-              ]
-          ]
+        | inl past ↦ subst (λ t. Of-kind has (t .rows)) (sym (joined-unknown rows left right places (inl past))) kinds
+        | inr left-known ↦
+            elim (cases-lt (length rows) right) [
+              | inl past ↦ subst (λ t. Of-kind has (t .rows)) (sym (joined-unknown rows left right places (inr past))) kinds
+              | inr right-known ↦
+                  elim (cases-lt 65535 (length (strip rows left) + length (strip rows right))) [
+                    | inl long ↦ subst (λ t. Of-kind has (t .rows)) (sym (joined-long rows left right places left-known right-known long)) kinds
+                    | inr short ↦
+                        subst (λ t. Of-kind has (t .rows)) (sym (joined-filed rows left right places left-known right-known short))
+                        (filing-of-kind (strip rows left ++ strip rows right) places (all-append (λ c. has c ≡ true) (strip rows left) (strip rows right) (strip-has has rows left kinds) (strip-has has rows right kinds)))
+                  ]
+            ]
       ]
 
   pub cut-of-kind : (n start size places : ℕ) → Of-kind has (cut-out rows n start size places .rows)
   cut-of-kind n start size places =
       elim (cases-lt (length rows) n) [
-        inl past ↦ subst (λ t. Of-kind has (t .rows)) (sym (cut-unknown rows n start size places past)) kinds
-      | inr within ↦
-          elim (cases-lt (length (strip rows n)) (start + size)) [
-            inl past ↦ subst (λ t. Of-kind has (t .rows)) (sym (cut-leaves rows n start size places within past)) kinds
-          | inr inside ↦
-              subst (λ t. Of-kind has (t .rows)) (sym (cut-filed rows n start size places within inside))
-              (filing-of-kind (part-of rows n start size) places (has-take has size (drop start (strip rows n)) (has-drop has start (strip rows n) (strip-has has rows n kinds))))
-          ]
+        | inl past ↦ subst (λ t. Of-kind has (t .rows)) (sym (cut-unknown rows n start size places past)) kinds
+        | inr within ↦
+            elim (cases-lt (length (strip rows n)) (start + size)) [
+              | inl past ↦ subst (λ t. Of-kind has (t .rows)) (sym (cut-leaves rows n start size places within past)) kinds
+              | inr inside ↦
+                  subst (λ t. Of-kind has (t .rows)) (sym (cut-filed rows n start size places within inside))
+                  (filing-of-kind (part-of rows n start size) places (has-take has size (drop start (strip rows n)) (has-drop has start (strip rows n) (strip-has has rows n kinds))))
+            ]
       ]

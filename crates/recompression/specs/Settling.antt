@@ -28,7 +28,8 @@ settling-by rows None = record { answer = Err Full; rows = rows }
 settling-by rows (Some s) = record { answer = Ok (number-left (s .numbers)); rows = s .rows }
 
 -- a string of more than 65,535 numbers is refused, and so is one that would need a row 1,025: the rows are
--- then as they were. Any other comes to one number, or to 0 when it is empty
+-- then as they were. Any other string of known numbers comes to one number, or to 0 when it is empty; of a
+-- string with other numbers, the first that the rounds leave is answered
 abbrev pub settling : List Row → List ℕ → Settling
 settling rows numbers = cond (ltb 65535 (length numbers)) (record { answer = Err TooLong; rows = rows }) (settling-by rows (all-rounds rows numbers))
 

@@ -24,8 +24,8 @@ impl Table {
     pub fn expand(&self, number: u16, start: usize, out: &mut [u16]) -> bool
         ensures { λ r. ⌜ Expanded (rows-in (now (self .entry))) number start (now (out .entry)) r (now (out .exit)) ⌝ }
     {
-        let length = usize::from(self.length_of(number));
-        if start > length || out.len() > length - start {
+        let kept = usize::from(self.length_of(number));
+        if start > kept || out.len() > kept - start {
             return false;
         }
         self.expand_row(number, start, out);
@@ -43,6 +43,8 @@ impl Table {
         }
     }
 
+    // The same where the strip is known to have all the places. Only parts below the row are visited, so that
+    // the calls come to leaves.
     fn expand_row(&self, number: u16, start: usize, out: &mut [u16])
         requires { ⌜ start + length (now out) ≤ row-of (rows-in (now self)) number .length ⌝ }
         ensures { λ _. ⌜ now (out .exit) ≡ written-out (rows-in (now (self .entry))) number start (length (now (out .entry))) ⌝ }
@@ -60,7 +62,8 @@ impl Table {
         }
     }
 
-    // The part before the place where the left one ends comes from it, and the others from the right one.
+    // Places before the end of the left part come from it, and the others from the right part. A part that
+    // no place is asked of is not visited.
     fn expand_pair(&self, number: u16, left: u16, right: u16, start: usize, out: &mut [u16])
         requires row { ⌜ row-of (rows-in (now self)) number .shape ≡ Pair left right ⌝ }
         requires known { ⌜ (0 < number) × (number ≤ length (rows-in (now self))) ⌝ }
@@ -77,7 +80,7 @@ impl Table {
         }
     }
 
-    // Whole copies before the start are skipped.
+    // The copies are written out one after the other, the first of them from where the start lies in it.
     fn expand_repeat(&self, number: u16, part: u16, times: u16, start: usize, out: &mut [u16])
         requires row { ⌜ row-of (rows-in (now self)) number .shape ≡ Repeat part times ⌝ }
         requires known { ⌜ (0 < number) × (number ≤ length (rows-in (now self))) ⌝ }

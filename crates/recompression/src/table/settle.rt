@@ -1,4 +1,5 @@
-// The rounds, run in place on a string of numbers until at most one is left.
+// The rounds, run in place on a string of numbers until at most one is left. For known numbers that is always
+// reached; of others, which no shelf passes on, the rounds may leave more, and the first of these is answered.
 ghost use mathlib.Core.Path.{_≡_};
 ghost use Prim.Native.Nat.{_≤_};
 ghost use lib.ListN.{length, take, replicate};
@@ -9,7 +10,7 @@ ghost use Rattle.rows.specs.Rounds.{blocks, enough-rounds};
 use crate::table::Table;
 use rows::MAX_CELLS;
 
-// Any 44 rounds on end make a string of two or more numbers shorter.
+// Any 44 rounds on end make a string of two or more known numbers shorter.
 const ROUNDS_PER_NUMBER: u32 = 44;
 
 // Why a string has no number.
