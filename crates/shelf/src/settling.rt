@@ -1,7 +1,7 @@
 // Strips of cells filed on a table.
 ghost use mathlib.Core.Path.{_≡_};
 ghost use Prim.Native.Nat.{_≤_};
-ghost use lib.ListN.{length};
+ghost use lib.ListN.{length, take};
 ghost use Rattle.std.specs.declared.option.Option.the-variants.{None};
 ghost use Rattle.book.specs.Calls.{printed, filing};
 ghost use Rattle.cells.specs.Printing.{first-unprintable};
@@ -27,6 +27,13 @@ fn settle_cells<K: CellKind>(table: &mut Table, cells: &[K], numbers: &mut [u16]
     table.settle(numbers).ok()
 }
 
+// Takes off the rows that a refused strip has left behind: those after the first `count`.
+fn take_off(table: &mut Table, count: usize)
+    ensures { λ _. ⌜ rows-in (now (table .exit)) ≡ take count (rows-in (now (table .entry))) ⌝ }
+{
+    table.truncate(count);
+}
+
 // The number of a strip of printable cells, which gets its rows.
 pub(crate) fn file_cells<K: CellKind>(
     table: &mut Table,
@@ -44,7 +51,7 @@ pub(crate) fn file_cells<K: CellKind>(
     match settle_cells(table, cells, &mut work[0..cells.len()]) {
         Some(number) => Ok(number),
         None => {
-            table.truncate(count);
+            take_off(table, count);
             Err(Refusal::ShelfFull)
         }
     }

@@ -48,6 +48,13 @@ fn expand_both(table: &Table, left: u16, right: u16, numbers: &mut [u16])
     expand_part(table, right, 0, rest, &mut numbers[middle..]);
 }
 
+// How many cells two strips have, one after the other.
+fn joint_length(table: &Table, left: u16, right: u16) -> usize
+    ensures { λ r. ⌜ r ≡ row-of (rows-in (now (table .entry))) left .length + row-of (rows-in (now (table .entry))) right .length ⌝ }
+{
+    usize::from(table.length_of(left)) + usize::from(table.length_of(right))
+}
+
 // The number that the strips of two numbers, one after the other, come to.
 fn join_on(table: &mut Table, left: u16, right: u16, work: &mut [u16]) -> Result<u16, Refusal>
     requires { ⌜ Lawful (rows-in (now table)) ⌝ }
@@ -57,7 +64,7 @@ fn join_on(table: &mut Table, left: u16, right: u16, work: &mut [u16]) -> Result
     if usize::from(left) > count || usize::from(right) > count {
         return Err(Refusal::UnknownNumber);
     }
-    let length = usize::from(table.length_of(left)) + usize::from(table.length_of(right));
+    let length = joint_length(table, left, right);
     if length > MAX_CELLS {
         return Err(Refusal::TooLong);
     }
@@ -67,6 +74,15 @@ fn join_on(table: &mut Table, left: u16, right: u16, work: &mut [u16]) -> Result
     let numbers = &mut work[0..length];
     expand_both(table, left, right, numbers);
     settle_leaves(table, numbers)
+}
+
+// The same, with what it leaves of the kinds that the rows are of.
+fn join_in_kind(table: &mut Table, left: u16, right: u16, work: &mut [u16]) -> Result<u16, Refusal>
+    requires { ⌜ Lawful (rows-in (now table)) ⌝ }
+    ensures outcome { λ r. ⌜ Comes-to r (rows-in (now (table .exit))) (joined-up (rows-in (now (table .entry))) left right (length (now (work .entry)))) ⌝ }
+    ensures kept { λ _. ⌜ Kind-kept (rows-in (now (table .entry))) (rows-in (now (table .exit))) ⌝ }
+{
+    join_on(table, left, right, work)
 }
 
 // The number that a part of a number's strip comes to.
@@ -95,6 +111,21 @@ fn cut_on(
     settle_leaves(table, numbers)
 }
 
+// The same, with what it leaves of the kinds that the rows are of.
+fn cut_in_kind(
+    table: &mut Table,
+    number: u16,
+    start: usize,
+    size: usize,
+    work: &mut [u16],
+) -> Result<u16, Refusal>
+    requires { ⌜ Lawful (rows-in (now table)) ⌝ }
+    ensures outcome { λ r. ⌜ Comes-to r (rows-in (now (table .exit))) (cut-out (rows-in (now (table .entry))) number start size (length (now (work .entry)))) ⌝ }
+    ensures kept { λ _. ⌜ Kind-kept (rows-in (now (table .entry))) (rows-in (now (table .exit))) ⌝ }
+{
+    cut_on(table, number, start, size, work)
+}
+
 impl Shelf {
     // The number that the strips of two numbers, one after the other, come to by the rounds.
     pub fn join(&mut self, left: u16, right: u16, work: &mut [u16]) -> Result<u16, Refusal>
@@ -104,7 +135,7 @@ impl Shelf {
         ensures cleared { λ _. ⌜ now (work .exit) ≡ replicate (length (now (work .entry))) 0 ⌝ }
     {
         let work = WorkArea(work);
-        join_on(&mut self.table, left, right, work.0)
+        join_in_kind(&mut self.table, left, right, work.0)
     }
 
     // The number that a part of a number's strip comes to by the rounds.
@@ -121,6 +152,6 @@ impl Shelf {
         ensures cleared { λ _. ⌜ now (work .exit) ≡ replicate (length (now (work .entry))) 0 ⌝ }
     {
         let work = WorkArea(work);
-        cut_on(&mut self.table, number, start, size, work.0)
+        cut_in_kind(&mut self.table, number, start, size, work.0)
     }
 }

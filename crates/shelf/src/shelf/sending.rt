@@ -1,5 +1,6 @@
 // Sending: a list of takes, joins and cuts, each working on what the earlier ones left.
-ghost use mathlib.Core.List.{map};
+ghost use mathlib.Core.Bool.{true};
+ghost use mathlib.Core.List.{[], map};
 ghost use mathlib.Core.Path.{_≡_};
 ghost use Prim.Native.Nat.{min};
 ghost use lib.Dec.{eqb};
@@ -76,5 +77,45 @@ impl Shelf {
         let count = requests.len().min(answers.len());
         self.send_all(&requests[0..count], &mut answers[0..count], work.0);
         count
+    }
+
+    // Sending to a shelf of the kind with no rows: here the book begins with none, and so knows nothing but the
+    // requests.
+    fn send_first<K: CellKind>(
+        &mut self,
+        requests: &[Sent<K>],
+        answers: &mut [Answer],
+        work: &mut [u16],
+    )
+        requires empty { ⌜ rows-on (now self) ≡ [] ⌝ }
+        requires alike { ⌜ now self .kind ≡ tag ⌝ }
+        ensures rows { λ _. ⌜ rows-on (now (self .exit)) ≡ rows-after true coded [] (calls-sent (length (now (work .entry))) (take (min (length (now (requests .entry))) (length (now (answers .entry)))) (now (requests .entry)))) ⌝ }
+        ensures answers { λ _. ⌜ map told (take (min (length (now (requests .entry))) (length (now (answers .entry)))) (now (answers .exit))) ≡ answers-of true coded [] (calls-sent (length (now (work .entry))) (take (min (length (now (requests .entry))) (length (now (answers .entry)))) (now (requests .entry)))) ⌝ }
+        ensures others { λ _. ⌜ drop (min (length (now (requests .entry))) (length (now (answers .entry)))) (now (answers .exit)) ≡ drop (min (length (now (requests .entry))) (length (now (answers .entry)))) (now (answers .entry)) ⌝ }
+        ensures kind { λ _. ⌜ now (self .exit) .kind ≡ tag ⌝ }
+        ensures cleared { λ _. ⌜ now (work .exit) ≡ replicate (length (now (work .entry))) 0 ⌝ }
+        ensures kept { λ _. ⌜ Of-kind has (rows-on (now (self .exit))) ⌝ }
+        ensures law { λ _. ⌜ One-number same (map told (take (min (length (now (requests .entry))) (length (now (answers .entry)))) (now (answers .exit)))) (strips-of true coded given [] (calls-sent (length (now (work .entry))) (take (min (length (now (requests .entry))) (length (now (answers .entry)))) (now (requests .entry))))) ⌝ }
+    {
+        self.send(requests, answers, work);
+    }
+
+    // A new shelf of a kind and the requests sent to it, told by a book that is fed the requests alone.
+    pub fn begin<K: CellKind>(
+        requests: &[Sent<K>],
+        answers: &mut [Answer],
+        work: &mut [u16],
+    ) -> Shelf
+        ensures rows { λ r. ⌜ rows-on r ≡ rows-after true coded [] (calls-sent (length (now (work .entry))) (take (min (length (now (requests .entry))) (length (now (answers .entry)))) (now (requests .entry)))) ⌝ }
+        ensures answers { λ _. ⌜ map told (take (min (length (now (requests .entry))) (length (now (answers .entry)))) (now (answers .exit))) ≡ answers-of true coded [] (calls-sent (length (now (work .entry))) (take (min (length (now (requests .entry))) (length (now (answers .entry)))) (now (requests .entry)))) ⌝ }
+        ensures others { λ _. ⌜ drop (min (length (now (requests .entry))) (length (now (answers .entry)))) (now (answers .exit)) ≡ drop (min (length (now (requests .entry))) (length (now (answers .entry)))) (now (answers .entry)) ⌝ }
+        ensures kind { λ r. ⌜ r .kind ≡ tag ⌝ }
+        ensures cleared { λ _. ⌜ now (work .exit) ≡ replicate (length (now (work .entry))) 0 ⌝ }
+        ensures kept { λ r. ⌜ Of-kind has (rows-on r) ⌝ }
+        ensures law { λ _. ⌜ One-number same (map told (take (min (length (now (requests .entry))) (length (now (answers .entry)))) (now (answers .exit)))) (strips-of true coded given [] (calls-sent (length (now (work .entry))) (take (min (length (now (requests .entry))) (length (now (answers .entry)))) (now (requests .entry))))) ⌝ }
+    {
+        let mut shelf = Shelf::new::<K>();
+        shelf.send_first(requests, answers, work);
+        shelf
     }
 }

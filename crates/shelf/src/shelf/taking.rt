@@ -16,6 +16,13 @@ use cells::first_unprintable;
 use recompression::table::Table;
 use rows::MAX_CELLS;
 
+// Whether a kind of cell has this kind number.
+fn is_of_kind<K: CellKind>(kind: u8) -> bool
+    ensures { λ r. ⌜ r ≡ eqb kind tag ⌝ }
+{
+    kind == K::kind_number()
+}
+
 // The number that cells of a kind come to on the rows of a shelf of kind number `kind`.
 fn take_on<K: CellKind>(
     table: &mut Table,
@@ -25,7 +32,7 @@ fn take_on<K: CellKind>(
 ) -> Result<u16, Refusal>
     ensures { λ r. ⌜ Comes-to r (rows-in (now (table .exit))) (taken (eqb kind tag) coded (rows-in (now (table .entry))) (now (cells .entry)) (length (now (work .entry)))) ⌝ }
 {
-    if kind != K::kind_number() {
+    if !is_of_kind::<K>(kind) {
         return Err(Refusal::OtherKind);
     }
     if cells.len() > MAX_CELLS {

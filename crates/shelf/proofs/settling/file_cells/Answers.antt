@@ -22,5 +22,5 @@ pub returns-in-None : need.returns-in-None
 returns-in-None g c =
     let many = length-printed (g .K·CellKind .coded) (c .args .cells .now) in
     told-full (rows-in (c .args .table .now)) (printed (g .K·CellKind .coded) (c .args .cells .now)) (length (c .args .work .now)) (omega arith)
-    (rows-in (c .settle-cells .last .table)) (rows-in (c .truncate .last .self)) (c .in-None .ensures tt)
-    (c .truncate .ensures ∙ ap (λ n. take n (rows-in (c .settle-cells .last .table))) (c .count-count .ensures))
+    (rows-in (c .settle-cells .last .table)) (rows-in (c .take-off .last .table)) (c .in-None .ensures tt)
+    (c .take-off .ensures ∙ ap (λ n. take n (rows-in (c .settle-cells .last .table))) (c .count-count .ensures))

@@ -1,8 +1,5 @@
-use borrow.Author.Needs.{needs}
-use mathlib.Core.Path.{refl, sym, subst}
-use lib.ListN.{length}
-use Rattle.book.specs.Laws.{Of-kind}
-use Rattle.book.proofs.CallFacts.{cut-of-kind, cut-lawful}
+use mathlib.Core.Path.{sym, subst}
+use Rattle.book.proofs.CallFacts.{cut-lawful}
 use Rattle.rows.specs.Lawful.{Lawful}
 use Rattle.shelf.specs.Contents.{rows-on}
 use Rattle.shelf.proofs.shelf.Shelf.cut.Needs as need
@@ -10,14 +7,4 @@ use Rattle.shelf.proofs.shelf.Shelf.cut.Needs as need
 pub ghost-self : need.ghost-self
 ghost-self c =
     let shelf = c .args .self .now in
-    (subst Lawful (sym (c .cut-on .ensures .1)) (cut-lawful (rows-on shelf) (c .args .number) (c .args .start) (c .args .size) (length (c .args .work .now)) (shelf .lawful)), tt)
-
-pub returns : need.returns
-returns c =
-    let shelf = c .args .self .now in
-    record {
-      outcome = c .cut-on .ensures;
-      kept = λ has of-kind. subst (Of-kind has) (sym (c .cut-on .ensures .1)) (cut-of-kind has (rows-on shelf) of-kind (c .args .number) (c .args .start) (c .args .size) (length (c .args .work .now)));
-      kind = refl;
-      cleared = search needs
-    }
+    (subst Lawful (sym (c .cut-in-kind .ensures .outcome .1)) (cut-lawful (rows-on shelf) _ _ _ _ (shelf .lawful)), tt)

@@ -31,7 +31,7 @@ returns g c =
     ap (map told) (take-at (c .send-all .last .answers) (drop (count - 0) (c .args .answers .now)) count long) ∙ c .send-all .ensures .answers
     ∙ ap (λ k. answers-of same-kind (K .coded) (rows-on shelf) (calls-sent area (take k requests))) whole in
     let rows-are : rows-on (c .send-all .last .self) ≡ rows-after same-kind (K .coded) (rows-on shelf) sents =
-        c .send-all .ensures .rows ∙ ap (λ k. rows-after same-kind (K .coded) (rows-on shelf) (calls-sent area (take k requests))) whole in
+    c .send-all .ensures .rows ∙ ap (λ k. rows-after same-kind (K .coded) (rows-on shelf) (calls-sent area (take k requests))) whole in
     let kind-laws : Kind-laws (K .coded) (K .has) (K .given) (K .same) = record { alike = laws .alike; known = laws .known; back = laws .back } in
     record {
       performed = c .min-count .ensures;

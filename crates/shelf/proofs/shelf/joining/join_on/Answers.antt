@@ -1,7 +1,7 @@
 use mathlib.Core.Path.{_≡_, refl, _∙_}
 use mathlib.Core.Logic.{_⊎_, inl, inr}
 use native.Mathlib.Omega.{arith}
-use Prim.Native.Nat.{_+_, _<_}
+use Prim.Native.Nat.{_<_}
 use lib.ListN.{length}
 use Rattle.recompression.specs.Contents.{rows-in}
 use Rattle.shelf.proofs.Joining.{join-unknown, join-too-long, join-small-work, join-settled}
@@ -21,15 +21,15 @@ returns-then-from-count c =
 pub returns-then-length-gt-MAX-CELLS : need.returns-then-length-gt-MAX-CELLS
 returns-then-length-gt-MAX-CELLS c =
     join-too-long (rows-in (c .args .table .now)) (c .pre) (c .args .left) (c .args .right) (length (c .args .work .now)) (omega arith) (omega arith)
-    (c .from-2 .result + c .from-3 .result) (omega arith) _ (omega arith) refl
+    (c .joint-length-length .result) (omega arith) _ (omega arith) refl
 
 pub returns-then-work-length : need.returns-then-work-length
 returns-then-work-length c =
     join-small-work (rows-in (c .args .table .now)) (c .pre) (c .args .left) (c .args .right) (length (c .args .work .now)) (omega arith) (omega arith)
-    (c .from-2 .result + c .from-3 .result) (omega arith) (omega arith) _ (omega arith) refl
+    (c .joint-length-length .result) (omega arith) (omega arith) _ (omega arith) refl
 
 pub returns : need.returns
 returns c =
     join-settled (rows-in (c .args .table .now)) (c .pre) (c .args .left) (c .args .right) (length (c .args .work .now)) (omega arith) (omega arith)
-    (c .from-2 .result + c .from-3 .result) (omega arith) (omega arith)
+    (c .joint-length-length .result) (omega arith) (omega arith)
     (c .settle-leaves .result) (rows-in (c .settle-leaves .last .table)) (c .expand-both .last .numbers) (omega arith) (c .expand-both .ensures) (c .settle-leaves .ensures)
