@@ -78,7 +78,7 @@ fn through_lines(heap: Global, case: Case<'_>) -> Result<String, AllocError>
 }
 
 impl<'a> Case<'a> {
-    pub fn of(line: &'a str) -> Self {
+    pub(crate) fn of(line: &'a str) -> Self {
         let (question, rest) = column(line);
         let (codes, rest) = column(rest);
         let (third, rest) = column(rest);
@@ -103,14 +103,14 @@ impl<'a> Case<'a> {
     }
 
     // The line that is expected.
-    pub fn expected(self, heap: Global) -> Result<String, AllocError>
+    pub(crate) fn expected(self, heap: Global) -> Result<String, AllocError>
         ensures { λ r. ⌜ made r (λ text. string-bytes text ≡ expected-line (self .entry)) ⌝ }
     {
         format!(heap, "{} {}\n", self.question, self.answer)
     }
 
     // The line that comes.
-    pub fn run(self, heap: Global) -> Result<String, AllocError> {
+    pub(crate) fn run(self, heap: Global) -> Result<String, AllocError> {
         match self.layers.split_once(',') {
             Some((below, above)) => through_pile(heap, self, below, above),
             None => through_lines(heap, self),

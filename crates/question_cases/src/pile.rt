@@ -28,7 +28,7 @@ fn ask_turned<K: Keeper>(keeper: &K, reversed: bool, above: Layers, question: Qu
 }
 
 // Asks about a strip through layers upon layers.
-pub fn ask_pile(strip: &[u32], below: Layers, above: Layers, question: Question) -> Answer
+pub(crate) fn ask_pile(strip: &[u32], below: Layers, above: Layers, question: Question) -> Answer
     ensures { λ r. ⌜ reply-of r ≡ reply-to question (seen-through above (seen-through below (take most-codes (now (strip .entry))))) ⌝ }
 {
     let strip = LooseStrip::new(strip);

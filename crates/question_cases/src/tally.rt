@@ -42,7 +42,7 @@ pub struct Tallies {
 }
 
 impl Tallies {
-    pub fn new() -> Self {
+    pub(crate) fn new() -> Self {
         Tallies {
             places: NONE,
             overlaps: NONE,
@@ -51,7 +51,7 @@ impl Tallies {
         }
     }
 
-    pub fn count(&mut self, question: &str, agrees: bool) {
+    pub(crate) fn count(&mut self, question: &str, agrees: bool) {
         if question == "places" {
             self.places.count(agrees);
         } else if question == "overlaps" {

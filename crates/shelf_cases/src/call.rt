@@ -60,7 +60,7 @@ fn read_cut(text: &str) -> Result<Act, AnyError> {
 
 impl<K: Spelled + Copy + Drop> Call<K> {
     // A line as `take 3 5 9 5`, `join 3 3 1` or `cut 3 7 1 3`: the first number is that of the work places.
-    pub fn read(heap: Global, text: &str) -> Result<Call<K>, AnyError> {
+    pub(crate) fn read(heap: Global, text: &str) -> Result<Call<K>, AnyError> {
         let (name, rest) = word(text);
         let (places, rest) = number(rest)?;
         let mut cells = Vec::new(heap);
@@ -132,7 +132,7 @@ fn said_of_work(work: &[u16]) -> &'static str {
 }
 
 // A refusal, by its number, with the place where it tells one.
-pub fn spell_refusal(heap: Global, refusal: Refusal) -> Result<String, AllocError> {
+pub(crate) fn spell_refusal(heap: Global, refusal: Refusal) -> Result<String, AllocError> {
     let number = refusal.number();
     match refusal {
         Refusal::Unprintable { place } => format!(heap, "refusal {number} at {place}"),
@@ -140,7 +140,7 @@ pub fn spell_refusal(heap: Global, refusal: Refusal) -> Result<String, AllocErro
     }
 }
 
-pub fn spell_answer(heap: Global, answer: Answer) -> Result<String, AllocError> {
+pub(crate) fn spell_answer(heap: Global, answer: Answer) -> Result<String, AllocError> {
     match answer {
         Ok(number) => format!(heap, "{number}"),
         Err(refusal) => spell_refusal(heap, refusal),
@@ -148,7 +148,7 @@ pub fn spell_answer(heap: Global, answer: Answer) -> Result<String, AllocError> 
 }
 
 // Performs a call that a line spells.
-pub fn perform_call<K: Spelled + Copy + Drop>(
+pub(crate) fn perform_call<K: Spelled + Copy + Drop>(
     heap: Global,
     shelf: &mut Shelf,
     text: &str,
@@ -194,7 +194,7 @@ fn spell_answers(heap: Global, answers: &[Answer]) -> Result<String, AllocError>
 }
 
 // Sends calls as a list: their number of answers, the work places there are, and the calls after bars.
-pub fn send<K: Spelled + Copy + Drop>(
+pub(crate) fn send<K: Spelled + Copy + Drop>(
     heap: Global,
     shelf: &mut Shelf,
     text: &str,
@@ -233,7 +233,7 @@ fn take_one<K: CellKind + Copy + Drop>(
 }
 
 // Takes cells one by one, those of codes that follow each other: work places, the first code, and how many.
-pub fn each<K: CellKind + Copy + Drop>(
+pub(crate) fn each<K: CellKind + Copy + Drop>(
     heap: Global,
     shelf: &mut Shelf,
     text: &str,

@@ -140,7 +140,7 @@ fn answer_of_kind<K: Spelled + Copy + Drop>(
 }
 
 // The answer to a line, which begins with the kind of cell that it is about.
-pub fn answer(heap: Global, shelf: &mut Shelf, line: &str) -> Result<String, AnyError> {
+pub(crate) fn answer(heap: Global, shelf: &mut Shelf, line: &str) -> Result<String, AnyError> {
     let (kind, rest) = word(line);
     if kind == "glyphs" {
         answer_of_kind::<Glyph>(heap, shelf, rest)

@@ -71,24 +71,24 @@ pub impl Spelled for Day as SpelledDay {
 }
 
 // The text before the next space, and the text after it.
-pub fn word(text: &str) -> (&str, &str) {
+pub(crate) fn word(text: &str) -> (&str, &str) {
     text.split_once(' ').unwrap_or((text, ""))
 }
 
 // The number before the next space, and the text after it.
-pub fn number(text: &str) -> Result<(usize, &str), AnyError> {
+pub(crate) fn number(text: &str) -> Result<(usize, &str), AnyError> {
     let (digits, rest) = word(text);
     Ok((digits.parse::<usize>()?, rest))
 }
 
 // The same for the number of a row.
-pub fn row_number(text: &str) -> Result<(u16, &str), AnyError> {
+pub(crate) fn row_number(text: &str) -> Result<(u16, &str), AnyError> {
     let (digits, rest) = word(text);
     Ok((digits.parse::<u16>()?, rest))
 }
 
 // As many cells alike.
-pub fn alike<K: CellKind + Copy>(
+pub(crate) fn alike<K: CellKind + Copy>(
     cells: &mut Vec<K>,
     cell: K,
     times: usize,
@@ -100,7 +100,7 @@ pub fn alike<K: CellKind + Copy>(
 }
 
 // Cells with spaces between; `5x3` is three cells.
-pub fn read_cells<K: Spelled + Copy>(heap: Global, text: &str) -> Result<Vec<K>, AnyError> {
+pub(crate) fn read_cells<K: Spelled + Copy>(heap: Global, text: &str) -> Result<Vec<K>, AnyError> {
     let mut cells = Vec::new(heap);
     for word in text.split_whitespace() {
         let (cell, times) = word.split_once('x').unwrap_or((word, "1"));
@@ -122,7 +122,7 @@ fn push_run(text: &mut String, cell: &str, times: usize, heap: Global) -> Result
 }
 
 // The same the other way, with a space before each cell or run of cells.
-pub fn spell_cells<K: Spelled>(heap: Global, cells: &[K]) -> Result<String, AllocError> {
+pub(crate) fn spell_cells<K: Spelled>(heap: Global, cells: &[K]) -> Result<String, AllocError> {
     let mut text = String::new(heap);
     let mut last = String::new(heap);
     let mut times = 0usize;
