@@ -6,8 +6,8 @@ use crate::CellKind;
 
 // The place of the first cell that is not printable, or `None` where every cell is printable.
 pub fn first_unprintable<K: CellKind>(cells: &[K]) -> Option<usize>
-    ensures computed { result ≡ first_unprintable coded cells.now }
-    ensures found { FoundFirst coded cells.now result }
+    ensures computed { result ≡ first_unprintable K.coded cells.now }
+    ensures found { FoundFirst K.coded cells.now result }
 {
     for (i, cell) in cells.iter().enumerate() {
         if cell.code().is_none() {
