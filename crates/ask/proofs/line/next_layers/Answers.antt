@@ -3,9 +3,9 @@ use Rattle.std.proofs.Common.{rules}
 use Rattle.ask.specs.Lines.{layers_front}
 use Rattle.ask.proofs.line.next_layers.Goals as goal
 
-pub returns-in-err-window : goal.returns-in-err-window
+pub returns-in_err-window : goal.returns-in_err-window
 unfolding layers_front
-returns-in-err-window c = search rules
+returns-in_err-window c = search rules
 
 pub returns : goal.returns
 unfolding layers_front

@@ -3,9 +3,9 @@ use Rattle.std.proofs.Common.{rules}
 use Rattle.ask.specs.Lines.{saying_of}
 use Rattle.ask.proofs.line.parse.Goals as goal
 
-pub returns-in-default : goal.returns-in-default
+pub returns-in_default : goal.returns-in_default
 unfolding saying_of
-returns-in-default c = search rules
+returns-in_default c = search rules
 
 pub returns-in-Some-2 : goal.returns-in-Some-2
 unfolding saying_of
@@ -15,14 +15,14 @@ pub returns-in-None : goal.returns-in-None
 unfolding saying_of
 returns-in-None c = search rules
 
-pub returns-in-default-next-layers : goal.returns-in-default-next-layers
+pub returns-in_default-next_layers : goal.returns-in_default-next_layers
 unfolding saying_of
-returns-in-default-next-layers c = search rules
+returns-in_default-next_layers c = search rules
 
-pub returns-in-Some-question-line : goal.returns-in-Some-question-line
+pub returns-in-Some-question_line : goal.returns-in-Some-question_line
 unfolding saying_of
-returns-in-Some-question-line c = search rules
+returns-in-Some-question_line c = search rules
 
-pub returns-in-None-question-line : goal.returns-in-None-question-line
+pub returns-in-None-question_line : goal.returns-in-None-question_line
 unfolding saying_of
-returns-in-None-question-line c = search rules
+returns-in-None-question_line c = search rules

@@ -3,9 +3,9 @@ use Rattle.std.proofs.Common.{rules}
 use Rattle.ask.specs.Lines.{question_words}
 use Rattle.ask.proofs.line.question_line.Goals as goal
 
-pub returns-in-err-word : goal.returns-in-err-word
+pub returns-in_err-word : goal.returns-in_err-word
 unfolding question_words
-returns-in-err-word c = search rules
+returns-in_err-word c = search rules
 
 pub returns-then-spells : goal.returns-then-spells
 unfolding question_words

@@ -3,29 +3,29 @@ use Rattle.std.proofs.Common.{◌≡◌, ◌+◌, ◌-◌, ◌*◌, ◌^◌, get
 use Rattle.ask.proofs.Decimals.{read_on, no_number, number_reads, read_digit, read_other, read_past, read_all}
 use Rattle.ask.proofs.number.number.Goals as goal
 
-pub returns-then-is-empty : goal.returns-then-is-empty
-returns-then-is-empty c = sym (no_number (2 ^ 64) c.args.word.now (search rules))
+pub returns-then-is_empty : goal.returns-then-is_empty
+returns-then-is_empty c = sym (no_number (2 ^ 64) c.args.word.now (search rules))
 
 pub loop-byte-init : goal.loop-byte-init
 loop-byte-init c = (omega arith, number_reads (2 ^ 64) c.args.word.now (search rules))
 
-pub returns-then-not-is-ascii-digit : goal.returns-then-not-is-ascii-digit
-returns-then-not-is-ascii-digit c =
-    sym (c.loop-byte.invariant.1 ∙ read_other (2 ^ 64) c.loop-byte.value c.args.word.now c.loop-byte.byte-index c.loop-byte-test.true (sym c.if-not-is-ascii-digit.ensures.value))
+pub returns-then-not-is_ascii_digit : goal.returns-then-not-is_ascii_digit
+returns-then-not-is_ascii_digit c =
+    sym (c.loop-byte.invariant.1 ∙ read_other (2 ^ 64) c.loop-byte.value c.args.word.now c.loop-byte.byte-index c.loop-byte-test.true (sym c.if-not-is_ascii_digit.ensures.value))
 
-pub returns-in-err-checked-mul : goal.returns-in-err-checked-mul
-returns-in-err-checked-mul c =
-    rw c.from-residual.ensures (sym (c.loop-byte.invariant.1 ∙ read_past (2 ^ 64) c.loop-byte.value c.args.word.now c.loop-byte.byte-index c.loop-byte-test.true (sym c.if-not-is-ascii-digit.ensures.value) (omega (arith, c.in-err-checked-mul.ensures))))
+pub returns-in_err-checked_mul : goal.returns-in_err-checked_mul
+returns-in_err-checked_mul c =
+    rw c.from-residual.ensures (sym (c.loop-byte.invariant.1 ∙ read_past (2 ^ 64) c.loop-byte.value c.args.word.now c.loop-byte.byte-index c.loop-byte-test.true (sym c.if-not-is_ascii_digit.ensures.value) (omega (arith, c.in_err-checked_mul.ensures))))
 
-pub returns-in-err-value : goal.returns-in-err-value
-returns-in-err-value c =
-    rw c.from-residual-in-err-value.ensures (sym (c.loop-byte.invariant.1 ∙ read_past (2 ^ 64) c.loop-byte.value c.args.word.now c.loop-byte.byte-index c.loop-byte-test.true (sym c.if-not-is-ascii-digit.ensures.value) (omega (arith, c.in-err-value.ensures, c.in-ok-checked-mul.ensures))))
+pub returns-in_err-value : goal.returns-in_err-value
+returns-in_err-value c =
+    rw c.from-residual-in_err-value.ensures (sym (c.loop-byte.invariant.1 ∙ read_past (2 ^ 64) c.loop-byte.value c.args.word.now c.loop-byte.byte-index c.loop-byte-test.true (sym c.if-not-is_ascii_digit.ensures.value) (omega (arith, c.in_err-value.ensures, c.in_ok-checked_mul.ensures))))
 
 pub loop-byte-preserved : goal.loop-byte-preserved
 loop-byte-preserved c =
     let digit = get_or c.args.word.now c.loop-byte.byte-index 0 in
-    let same : c.loop-byte.value * 10 + (digit - 48) ≡ c.in-ok-value.value = omega (arith, c.in-ok-value.ensures, c.in-ok-checked-mul.ensures) in
-    (omega (arith, c.in-ok-value.ensures), c.loop-byte.invariant.1 ∙ read_digit (2 ^ 64) c.loop-byte.value c.args.word.now c.loop-byte.byte-index c.loop-byte-test.true (sym c.if-not-is-ascii-digit.ensures.value) ∙ ap (λ n. read_on (2 ^ 64) n (drop (c.loop-byte.byte-index + 1) c.args.word.now)) same)
+    let same : c.loop-byte.value * 10 + (digit - 48) ≡ c.in_ok-value.value = omega (arith, c.in_ok-value.ensures, c.in_ok-checked_mul.ensures) in
+    (omega (arith, c.in_ok-value.ensures), c.loop-byte.invariant.1 ∙ read_digit (2 ^ 64) c.loop-byte.value c.args.word.now c.loop-byte.byte-index c.loop-byte-test.true (sym c.if-not-is_ascii_digit.ensures.value) ∙ ap (λ n. read_on (2 ^ 64) n (drop (c.loop-byte.byte-index + 1) c.args.word.now)) same)
 
 pub returns : goal.returns
 returns c = sym (c.loop-byte.invariant.1 ∙ read_all (2 ^ 64) c.loop-byte.value c.args.word.now c.loop-byte.byte-index c.loop-byte-test.false c.loop-byte.invariant.0)

@@ -8,7 +8,7 @@ use Rattle.ask.proofs.session.printed.Goals as goal
 
 pub returns-in-Question : goal.returns-in-Question
 returns-in-Question c =
-    let seen = c.ask-through-answer.ensures ∙ ap (λ strip. reply_to c.in-Question.question (seen_through c.in-Question.layers strip)) c.new-in-Question.ensures in
+    let seen = c.ask_through-answer.ensures ∙ ap (λ strip. reply_to c.in-Question.question (seen_through c.in-Question.layers strip)) c.new-in-Question.ensures in
     let said = ap (λ line. printed_for c.args.number c.args.strip.now (said_by line)) (sym c.in-Question.is) in
     IfOk-weaker c.format.result _ _ (λ text told. told ∙ ap (λ reply. reply_text reply ++ ascii "\n") seen ∙ said) c.format.ensures.ok
 

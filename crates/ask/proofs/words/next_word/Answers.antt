@@ -4,8 +4,8 @@ use Rattle.ask.proofs.words.next_word.Goals as goal
 
 pub returns-then-size-eq0 : goal.returns-then-size-eq0
 returns-then-size-eq0 c =
-    no_word c.args.line.now c.length-in.result c.length-in-size.result c.length-in.ensures.value c.length-in-size.ensures.value c.if-size-eq0.true
+    no_word c.args.line.now c.length_in.result c.length_in-size.result c.length_in.ensures.value c.length_in-size.ensures.value c.if-size-eq0.true
 
 pub returns : goal.returns
 returns c =
-    first_word c.args.line.now c.length-in.result c.length-in-size.result _ _ c.length-in.ensures.value c.length-in-size.ensures.value c.if-size-eq0.false c.split-at.ensures.front c.split-at.ensures.back
+    first_word c.args.line.now c.length_in.result c.length_in-size.result _ _ c.length_in.ensures.value c.length_in-size.ensures.value c.if-size-eq0.false c.split_at.ensures.front c.split_at.ensures.back

@@ -10,5 +10,5 @@ pub returns : goal.returns
 unfolding is_named
 returns c =
     let word = c.args.word.now in
-    let bytes = c.as-bytes.result.now in
-    same_from_decides c.eq.result (bytes_eq word bytes) (slice_eq-Decides Decides-eqb word bytes c.eq.result c.eq.ensures) (bytes_eq-Decides word bytes) ∙ ap (bytes_eq word) c.as-bytes.ensures.value
+    let bytes = c.as_bytes.result.now in
+    same_from_decides c.eq.result (bytes_eq word bytes) (slice_eq-Decides Decides-eqb word bytes c.eq.result c.eq.ensures) (bytes_eq-Decides word bytes) ∙ ap (bytes_eq word) c.as_bytes.ensures.value

@@ -8,5 +8,5 @@ loop-i-init g c = front_none _ _
 
 pub loop-i-preserved : goal.loop-i-preserved
 loop-i-preserved g c =
-    let printable = sym (ap is_some c.code.ensures) ∙ c.if-is-none.ensures in
+    let printable = sym (ap is_some c.code.ensures) ∙ c.if-is_none.ensures in
     front_more _ _ _ _ c.loop-i-test.true c.index-cells-i.is printable c.loop-i.invariant.0

@@ -17,28 +17,28 @@ loop-rest-init c = (
   refl,
 )
 
-pub returns-in-default : goal.returns-in-default
-returns-in-default c =
+pub returns-in_default : goal.returns-in_default
+returns-in_default c =
     let text = string_bytes c.loop-rest.text in
     let some : 0 < length c.loop-rest.rest.now = search rules in
-    c.in-ok-print.ensures
-    ∙ ap (λ t. text ++ flat_map line_bytes (t ∷ [])) c.stop-at.ensures
-    ∙ prints_stop text (standing_of c.loop-rest.desk) c.loop-rest.place c.loop-rest.rest.now (flat_map line_bytes (told_from nothing_yet (entries c.args.job.now))) some (sym c.in-default.ensures) c.loop-rest.invariant.1
+    c.in_ok-print.ensures
+    ∙ ap (λ t. text ++ flat_map line_bytes (t ∷ [])) c.stop_at.ensures
+    ∙ prints_stop text (standing_of c.loop-rest.desk) c.loop-rest.place c.loop-rest.rest.now (flat_map line_bytes (told_from nothing_yet (entries c.args.job.now))) some (sym c.in_default.ensures) c.loop-rest.invariant.1
 
-pub split-at-requires : goal.split-at-requires
-split-at-requires c =
+pub split_at-requires : goal.split_at-requires
+split_at-requires c =
     let within = size_within (vec_items c.loop-rest.desk.tray) c.loop-rest.rest.now c.in-Some.command (sym c.in-Some.ensures) in
     omega (arith, within, c.size.ensures)
 
 pub loop-rest-preserved : goal.loop-rest-preserved
 loop-rest-preserved c =
     let some : 0 < length c.loop-rest.rest.now = search rules in
-    let size_is : length c.split-at.result.0.now ≡ size_of c.in-Some.command = c.split-at.ensures.front-len ∙ c.size.ensures in (
-      omega (arith, c.split-at.ensures.back_len, c.split-at.ensures.front-len, c.loop-rest.invariant.0),
-      turn_more (string_bytes c.loop-rest.text) (string_bytes c.print-in-loop-rest.new.text) (standing_of c.loop-rest.desk) (standing_of c.perform.new.self) c.loop-rest.place (length c.split-at.result.0.now)
-          c.loop-rest.rest.now c.split-at.result.1.now (flat_map line_bytes (told_from nothing_yet (entries c.args.job.now))) c.in-Some.command (told_lines c.in-ok-line.line) some c.in-Some.ensures c.in-ok-line.ensures.done
-          c.in-ok-print-2.ensures size_is (c.split-at.ensures.back ∙ ap (λ n. drop n c.loop-rest.rest.now) c.size.ensures) c.loop-rest.invariant.1,
-      c.in-ok-line.ensures.glyphs,
+    let size_is : length c.split_at.result.0.now ≡ size_of c.in-Some.command = c.split_at.ensures.front-len ∙ c.size.ensures in (
+      omega (arith, c.split_at.ensures.back_len, c.split_at.ensures.front-len, c.loop-rest.invariant.0),
+      turn_more (string_bytes c.loop-rest.text) (string_bytes c.print-in-loop-rest.new.text) (standing_of c.loop-rest.desk) (standing_of c.perform.new.self) c.loop-rest.place (length c.split_at.result.0.now)
+          c.loop-rest.rest.now c.split_at.result.1.now (flat_map line_bytes (told_from nothing_yet (entries c.args.job.now))) c.in-Some.command (told_lines c.in_ok-line.line) some c.in-Some.ensures c.in_ok-line.ensures.done
+          c.in_ok-print-2.ensures size_is (c.split_at.ensures.back ∙ ap (λ n. drop n c.loop-rest.rest.now) c.size.ensures) c.loop-rest.invariant.1,
+      c.in_ok-line.ensures.glyphs,
       search rules,
     )
 

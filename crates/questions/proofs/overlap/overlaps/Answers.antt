@@ -14,12 +14,12 @@ returns g c =
     let first = c.args.first in
     let second = c.args.second in
     let least = c.args.least in
-    let in_first : inside xs first ≡ true = sym c.if-not-lies-in.ensures in
-    let in_second : inside xs second ≡ true = sym c.if-not-lies-in-2.ensures in
+    let in_first : inside xs first ≡ true = sym c.if-not-lies_in.ensures in
+    let in_second : inside xs second ≡ true = sym c.if-not-lies_in-2.ensures in
     let unchecked : overlaps_check xs first second least ≡ None = grind (arith, nat_tests) in
     let test = is_overlap (cut xs first) (cut xs second) in
-    let answer = c.overlaps-from.result in
+    let answer = c.overlaps_from.result in
     record {
-      value = answered_unchecked (overlaps_check xs first second least) answer (told (overlaps_of (cut xs first) (cut xs second) least)) unchecked (sym (told_tells test least least answer c.overlaps-from.ensures));
-      law = (unchecked, names_tells test least least answer c.overlaps-from.ensures);
+      value = answered_unchecked (overlaps_check xs first second least) answer (told (overlaps_of (cut xs first) (cut xs second) least)) unchecked (sym (told_tells test least least answer c.overlaps_from.ensures));
+      law = (unchecked, names_tells test least least answer c.overlaps_from.ensures);
     }

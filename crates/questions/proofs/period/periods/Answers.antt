@@ -17,18 +17,18 @@ returns g c =
     let xs = g.K.Keeper.codes c.args.keeper.now in
     let fragment = c.args.fragment in
     let old = c.args.records.now in
-    let used = c.write-ranges-used.result in
-    let before = c.write-ranges-used.new.records in
-    let after = c.clear-unused.new.records in
+    let used = c.write_ranges-used.result in
+    let before = c.write_ranges-used.new.records in
+    let after = c.clear_unused.new.records in
     let w = cut xs fragment in
-    let lies : inside xs fragment ≡ true = sym c.if-not-lies-in.ensures in
+    let lies : inside xs fragment ≡ true = sym c.if-not-lies_in.ensures in
     let unchecked : periods_check xs fragment (length old) ≡ None = grind (arith, nat_tests) in
     let fits : fragment.start + fragment.length ≤ length xs = leb-true (fragment.start + fragment.length) (length xs) lies in
     let long = length_part xs fragment.start fragment.length fits in
-    let last = ap (set before used) c.length-record.ensures ∙ ap (λ n. set before used (triple n 0 1)) (sym long) in
-    let few = c.write-ranges-used.ensures.few in
-    let all = all_written w before (set before used c.length-record.result) after old used few (omega arith)
-    c.write-ranges-used.ensures.written c.write-ranges-used.ensures.rest last c.clear-unused.ensures in
+    let last = ap (set before used) c.length_record.ensures ∙ ap (λ n. set before used (triple n 0 1)) (sym long) in
+    let few = c.write_ranges-used.ensures.few in
+    let all = all_written w before (set before used c.length_record.result) after old used few (omega arith)
+    c.write_ranges-used.ensures.written c.write_ranges-used.ensures.rest last c.clear_unused.ensures in
     let some : 1 ≤ length w = omega arith in
     let short : length w ≤ 65535 = omega (arith, g.K.Keeper.short c.args.keeper.now) in
     let first : take 17 after ≡ written_records w = ap (take 17) all ∙ take_at (written_records w) (drop 17 old) 17 (written_name_all w some short).0 in

@@ -16,6 +16,6 @@ pub loop-range-preserved : goal.loop-range-preserved
 loop-range-preserved g c =
     let w = cut (g.K.Keeper.codes c.args.keeper.now) c.args.fragment in (
       omega arith,
-      range_passed w c.loop-range.records (records_below w 16) c.loop-range.used c.loop-range.range (omega arith) c.loop-range.invariant.1 c.in-default.ensures,
+      range_passed w c.loop-range.records (records_below w 16) c.loop-range.used c.loop-range.range (omega arith) c.loop-range.invariant.1 c.in_default.ensures,
       c.loop-range.invariant.2,
     )

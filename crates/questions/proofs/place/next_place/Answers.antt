@@ -4,12 +4,12 @@ use Rattle.periodicity.proofs.Extensions.{place_from_common, no_place_from_commo
 use Rattle.periodicity.proofs.Ranges.{none_more}
 use Rattle.questions.proofs.place.next_place.Goals as goal
 
-pub returns-then-common-ahead-pattern : goal.returns-then-common-ahead-pattern
-returns-then-common-ahead-pattern g c =
+pub returns-then-common_ahead-pattern : goal.returns-then-common_ahead-pattern
+returns-then-common_ahead-pattern g c =
     let xs = g.K.Keeper.codes c.args.keeper.now in (
       omega arith,
       omega arith,
-      place_from_common xs c.args.pattern c.loop-i.i c.common-ahead.result c.requires.pattern (omega arith) c.common-ahead.ensures (omega arith),
+      place_from_common xs c.args.pattern c.loop-i.i c.common_ahead.result c.requires.pattern (omega arith) c.common_ahead.ensures (omega arith),
       c.loop-i.invariant,
     )
 
@@ -17,4 +17,4 @@ pub loop-i-preserved : goal.loop-i-preserved
 loop-i-preserved g c =
     let xs = g.K.Keeper.codes c.args.keeper.now in
     none_more (is_place xs c.args.pattern) c.args.from c.loop-i.i c.loop-i.invariant
-    (no_place_from_common xs c.args.pattern c.loop-i.i c.common-ahead.result c.requires.pattern (omega arith) c.common-ahead.ensures (omega arith))
+    (no_place_from_common xs c.args.pattern c.loop-i.i c.common_ahead.result c.requires.pattern (omega arith) c.common_ahead.ensures (omega arith))

@@ -13,13 +13,13 @@ returns g c =
     let xs = g.K.Keeper.codes c.args.keeper.now in
     let pattern = c.args.pattern in
     let field = c.args.field in
-    let in_pattern : inside xs pattern ≡ true = sym c.if-not-lies-in.ensures in
-    let in_field : inside xs field ≡ true = sym c.if-not-lies-in-2.ensures in
-    let near : leb (2 * pattern.length) field.length ≡ false = sym c.is-too-long.ensures ∙ c.if-is-too-long.false in
+    let in_pattern : inside xs pattern ≡ true = sym c.if-not-lies_in.ensures in
+    let in_field : inside xs field ≡ true = sym c.if-not-lies_in-2.ensures in
+    let near : leb (2 * pattern.length) field.length ≡ false = sym c.is_too_long.ensures ∙ c.if-is_too_long.false in
     let unchecked : places_check xs pattern field ≡ None = grind (arith, nat_tests) in
-    let answer = c.places-in.result in
+    let answer = c.places_in.result in
     let size = field.length + 1 - pattern.length in
     record {
-      value = answered_unchecked (places_check xs pattern field) answer (told (places_of xs pattern field)) unchecked (sym (told_tells (is_place xs pattern) field.start size answer c.places-in.ensures));
-      law = (unchecked, names_tells (is_place xs pattern) field.start size answer c.places-in.ensures);
+      value = answered_unchecked (places_check xs pattern field) answer (told (places_of xs pattern field)) unchecked (sym (told_tells (is_place xs pattern) field.start size answer c.places_in.ensures));
+      law = (unchecked, names_tells (is_place xs pattern) field.start size answer c.places_in.ensures);
     }

@@ -6,15 +6,15 @@ use Rattle.shelf.proofs.leaves.file_leaves.Goals as goal
 
 pub unreachable-requires : goal.unreachable-requires
 unreachable-requires g c =
-    code_missing g.K.CellKind.coded c.args.cells.now c.loop-i.i c.index-cells-i.result c.requires.printable c.loop-i-test.true c.index-cells-i.is c.in-default.ensures
+    code_missing g.K.CellKind.coded c.args.cells.now c.loop-i.i c.index-cells-i.result c.requires.printable c.loop-i-test.true c.index-cells-i.is c.in_default.ensures
 
-pub returns-in-default-file : goal.returns-in-default-file
-returns-in-default-file g c =
+pub returns-in_default-file : goal.returns-in_default-file
+returns-in_default-file g c =
     let old = rows_in c.args.table.now in
     let codes = printed g.K.CellKind.coded c.args.cells.now in
     let code = code_read g.K.CellKind.coded c.args.cells.now c.loop-i.i c.index-cells-i.result c.requires.printable c.loop-i-test.true c.index-cells-i.is c.in-Some.code c.in-Some.ensures in (
-      none_left old codes c.loop-i.i (rows_in c.loop-i.table) c.loop-i.numbers c.loop-i.invariant c.in-Some.code code.0 code.1 c.in-default-file.ensures.number,
-      rows_kept old codes c.loop-i.i (rows_in c.loop-i.table) c.loop-i.numbers c.loop-i.invariant c.in-Some.code code.0 code.1 (rows_in c.file.new.self) c.in-default-file.ensures.number c.in-default-file.ensures.rows,
+      none_left old codes c.loop-i.i (rows_in c.loop-i.table) c.loop-i.numbers c.loop-i.invariant c.in-Some.code code.0 code.1 c.in_default-file.ensures.number,
+      rows_kept old codes c.loop-i.i (rows_in c.loop-i.table) c.loop-i.numbers c.loop-i.invariant c.in-Some.code code.0 code.1 (rows_in c.file.new.self) c.in_default-file.ensures.number c.in_default-file.ensures.rows,
     )
 
 pub loop-i-preserved : goal.loop-i-preserved

@@ -11,14 +11,14 @@ use Rattle.shelf_strip.proofs.agreement.agreeing.Goals as goal
 pub step-more-requires : goal.step-more-requires
 step-more-requires c =
     let rows = rows_on c.args.shelf.now in
-    let at = stands_at c.args.side rows c.args.number c.strip-length-length.result c.strip-length-length.ensures in
+    let at = stands_at c.args.side rows c.args.number c.strip_length-length.result c.strip_length-length.ensures in
     record { left = at (c.args.i + c.loop-agreed.agreed) (omega arith); right = at (c.args.j + c.loop-agreed.agreed) (omega arith) }
 
 pub returns-then-more-eq0 : goal.returns-then-more-eq0
 returns-then-more-eq0 c =
     let rows = rows_on c.args.shelf.now in
     let xs = seen c.args.side rows c.args.number in
-    step_stops c.args.side rows c.args.number c.strip-length-length.result c.strip-length-length.ensures c.args.i c.args.j
+    step_stops c.args.side rows c.args.number c.strip_length-length.result c.strip_length-length.ensures c.args.i c.args.j
     (common (drop c.args.i xs) (drop c.args.j xs)) c.loop-agreed.agreed c.step-more.result (omega arith) c.step-more.ensures
     c.loop-agreed.invariant.1 c.if-more-eq0.true
 
@@ -27,9 +27,9 @@ loop-agreed-preserved c =
     let rows = rows_on c.args.shelf.now in
     let xs = seen c.args.side rows c.args.number in
     let whole = common (drop c.args.i xs) (drop c.args.j xs) in
-    let fits = step_fits c.args.side rows c.args.number c.strip-length-length.result c.strip-length-length.ensures c.args.i c.args.j whole c.loop-agreed.agreed c.step-more.result (omega arith) c.step-more.ensures in (
+    let fits = step_fits c.args.side rows c.args.number c.strip_length-length.result c.strip_length-length.ensures c.args.i c.args.j whole c.loop-agreed.agreed c.step-more.result (omega arith) c.step-more.ensures in (
       omega arith,
-      step_counts c.args.side rows c.args.number c.strip-length-length.result c.strip-length-length.ensures c.args.i c.args.j whole c.loop-agreed.agreed c.step-more.result (omega arith) c.step-more.ensures c.loop-agreed.invariant.1,
+      step_counts c.args.side rows c.args.number c.strip_length-length.result c.strip_length-length.ensures c.args.i c.args.j whole c.loop-agreed.agreed c.step-more.result (omega arith) c.step-more.ensures c.loop-agreed.invariant.1,
     )
 
 pub returns : goal.returns

@@ -10,7 +10,7 @@ use Rattle.shelf_strip.proofs.agreement.agreeing_behind.Goals as goal
 pub returns : goal.returns
 returns c =
     let xs = strip (rows_on c.args.shelf.now) c.args.number in
-    let back = back_from xs c.strip-length-length.result in
-    let left = back c.args.i c.strip-length-length.ensures c.requires.first in
-    let right = back c.args.j c.strip-length-length.ensures c.requires.second in
+    let back = back_from xs c.strip_length-length.result in
+    let left = back c.args.i c.strip_length-length.ensures c.requires.first in
+    let right = back c.args.j c.strip_length-length.ensures c.requires.second in
     count_greatest (reverse (take c.args.i xs)) (reverse (take c.args.j xs)) c.agreeing.result (c.agreeing.ensures ∙ ap₂ common left right)

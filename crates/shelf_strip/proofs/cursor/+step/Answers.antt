@@ -4,9 +4,9 @@ use Rattle.shelf.specs.Contents.{rows_on}
 use Rattle.shelf_strip.proofs.StepFacts.{steps_same, apart_right, apart_left}
 use Rattle.shelf_strip.proofs.cursor.+step.Goals as goal
 
-pub returns-then-stands-with : goal.returns-then-stands-with
-returns-then-stands-with t c =
-    steps_same c.args.side (rows_on c.args.shelf.now) c.args.left c.args.right c.min.result c.requires.left c.requires.right (sym c.if-stands-with.ensures) c.min.ensures
+pub returns-then-stands_with : goal.returns-then-stands_with
+returns-then-stands_with t c =
+    steps_same c.args.side (rows_on c.args.shelf.now) c.args.left c.args.right c.min.result c.requires.left c.requires.right (sym c.if-stands_with.ensures) c.min.ensures
 
 pub returns-in-None : goal.returns-in-None
 returns-in-None t c =
@@ -16,4 +16,4 @@ returns-in-None t c =
 pub returns-in-None-descend : goal.returns-in-None-descend
 returns-in-None-descend t c =
     let leaf = c.in-None-descend.ensures in
-    apart_left c.args.side (rows_on c.args.shelf.now) c.args.shelf.now.lawful c.args.left c.args.right c.requires.left c.requires.right leaf.0 leaf.1 c.if-left-right.false (sym c.if-stands-with.ensures)
+    apart_left c.args.side (rows_on c.args.shelf.now) c.args.shelf.now.lawful c.args.left c.args.right c.requires.left c.requires.right leaf.0 leaf.1 c.if-left-right.false (sym c.if-stands_with.ensures)

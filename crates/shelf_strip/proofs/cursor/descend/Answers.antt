@@ -9,32 +9,32 @@ use Rattle.shelf_strip.proofs.CursorFacts.{shape_read, row_there, pair_lengths, 
 use Rattle.shelf_strip.proofs.SeenFacts.{length_seen}
 use Rattle.shelf_strip.proofs.cursor.descend.Goals as goal
 
-pub returns-in-err-row : goal.returns-in-err-row
-returns-in-err-row c =
-    absurd (row_there c.args.side (rows_on c.args.shelf.now) c.args.shelf.now.lawful c.args.cursor c.requires c.in-err-row.ensures)
+pub returns-in_err-row : goal.returns-in_err-row
+returns-in_err-row c =
+    absurd (row_there c.args.side (rows_on c.args.shelf.now) c.args.shelf.now.lawful c.args.cursor c.requires c.in_err-row.ensures)
 
-pub in-pair-requires : goal.in-pair-requires
-in-pair-requires c =
+pub in_pair-requires : goal.in_pair-requires
+in_pair-requires c =
     let rows = rows_on c.args.shelf.now in
     let shape = Pair c.in-Pair.left c.in-Pair.right in
-    let is = shape_read rows c.args.cursor.number c.in-ok-row.row shape c.in-ok-row.ensures c.in-Pair.is in
+    let is = shape_read rows c.args.cursor.number c.in_ok-row.row shape c.in_ok-row.ensures c.in-Pair.is in
     let whole = pair_lengths c.args.side rows c.args.shelf.now.lawful c.args.cursor c.requires c.in-Pair.left c.in-Pair.right is in
-    let first = c.strip-length.ensures ∙ ap (λ n. length (strip rows n)) c.first-first.ensures in
-    let second = c.strip-length-in-Pair.ensures ∙ ap (λ n. length (strip rows n)) c.second-second.ensures in
+    let first = c.strip_length.ensures ∙ ap (λ n. length (strip rows n)) c.first-first.ensures in
+    let second = c.strip_length-in-Pair.ensures ∙ ap (λ n. length (strip rows n)) c.second-second.ensures in
     omega (arith, c.requires.within)
 
-pub in-copies-requires : goal.in-copies-requires
-in-copies-requires c =
+pub in_copies-requires : goal.in_copies-requires
+in_copies-requires c =
     let rows = rows_on c.args.shelf.now in
     let shape = Repeat c.in-Repeat.part c.in-Repeat.times in
-    let is = shape_read rows c.args.cursor.number c.in-ok-row.row shape c.in-ok-row.ensures c.in-Repeat.is in
+    let is = shape_read rows c.args.cursor.number c.in_ok-row.row shape c.in_ok-row.ensures c.in-Repeat.is in
     let some = copy_some c.args.side rows c.args.shelf.now.lawful c.args.cursor c.requires c.in-Repeat.part c.in-Repeat.times is in
     let long = length_seen c.args.side rows c.args.cursor.number in
-    record { some = omega (arith, c.strip-length-in-Repeat.ensures); within = omega (arith, c.strip-length-in-Repeat-2.ensures, c.requires.within) }
+    record { some = omega (arith, c.strip_length-in-Repeat.ensures); within = omega (arith, c.strip_length-in-Repeat-2.ensures, c.requires.within) }
 
 pub returns-in-Leaf : goal.returns-in-Leaf
 returns-in-Leaf c =
-    (c.in-Leaf.code, shape_read (rows_on c.args.shelf.now) c.args.cursor.number c.in-ok-row.row (Leaf c.in-Leaf.code) c.in-ok-row.ensures c.in-Leaf.is)
+    (c.in-Leaf.code, shape_read (rows_on c.args.shelf.now) c.args.cursor.number c.in_ok-row.row (Leaf c.in-Leaf.code) c.in_ok-row.ensures c.in-Leaf.is)
 
 pub returns-in-Pair : goal.returns-in-Pair
 returns-in-Pair c =
@@ -42,12 +42,12 @@ returns-in-Pair c =
     let side = c.args.side in
     let left = c.in-Pair.left in
     let right = c.in-Pair.right in
-    let is = shape_read rows c.args.cursor.number c.in-ok-row.row (Pair left right) c.in-ok-row.ensures c.in-Pair.is in
-    let first = c.strip-length.ensures ∙ ap (λ n. length (strip rows n)) c.first-first.ensures ∙ sym (length_seen side rows (first_of side left right)) in
-    let second = c.strip-length-in-Pair.ensures ∙ ap (λ n. length (strip rows n)) c.second-second.ensures ∙ sym (length_seen side rows (second_of side left right)) in
-    let same = c.in-pair.ensures ∙ ap₂ (λ f s. in_pair f c.strip-length.result s c.strip-length-in-Pair.result c.args.cursor.place) c.first-first.ensures c.second-second.ensures in
+    let is = shape_read rows c.args.cursor.number c.in_ok-row.row (Pair left right) c.in_ok-row.ensures c.in-Pair.is in
+    let first = c.strip_length.ensures ∙ ap (λ n. length (strip rows n)) c.first-first.ensures ∙ sym (length_seen side rows (first_of side left right)) in
+    let second = c.strip_length-in-Pair.ensures ∙ ap (λ n. length (strip rows n)) c.second-second.ensures ∙ sym (length_seen side rows (second_of side left right)) in
+    let same = c.in_pair.ensures ∙ ap₂ (λ f s. in_pair f c.strip_length.result s c.strip_length-in-Pair.result c.args.cursor.place) c.first-first.ensures c.second-second.ensures in
     subst (Goes_on side rows c.args.cursor) (sym same)
-    (goes_in_pair side rows c.args.shelf.now.lawful c.args.cursor c.requires left right is c.strip-length.result first c.strip-length-in-Pair.result second)
+    (goes_in_pair side rows c.args.shelf.now.lawful c.args.cursor c.requires left right is c.strip_length.result first c.strip_length-in-Pair.result second)
 
 pub returns-in-Repeat : goal.returns-in-Repeat
 returns-in-Repeat c =
@@ -55,8 +55,8 @@ returns-in-Repeat c =
     let side = c.args.side in
     let part = c.in-Repeat.part in
     let count = c.in-Repeat.times in
-    let is = shape_read rows c.args.cursor.number c.in-ok-row.row (Repeat part count) c.in-ok-row.ensures c.in-Repeat.is in
-    let copy = c.strip-length-in-Repeat.ensures ∙ sym (length_seen side rows part) in
-    let whole = c.strip-length-in-Repeat-2.ensures ∙ sym (length_seen side rows c.args.cursor.number) in
-    subst (Goes_on side rows c.args.cursor) (sym c.in-copies.ensures)
-    (goes_in_copies side rows c.args.shelf.now.lawful c.args.cursor c.requires part count is c.strip-length-in-Repeat.result copy c.strip-length-in-Repeat-2.result whole)
+    let is = shape_read rows c.args.cursor.number c.in_ok-row.row (Repeat part count) c.in_ok-row.ensures c.in-Repeat.is in
+    let copy = c.strip_length-in-Repeat.ensures ∙ sym (length_seen side rows part) in
+    let whole = c.strip_length-in-Repeat-2.ensures ∙ sym (length_seen side rows c.args.cursor.number) in
+    subst (Goes_on side rows c.args.cursor) (sym c.in_copies.ensures)
+    (goes_in_copies side rows c.args.shelf.now.lawful c.args.cursor c.requires part count is c.strip_length-in-Repeat.result copy c.strip_length-in-Repeat-2.result whole)

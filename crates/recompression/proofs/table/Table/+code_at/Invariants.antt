@@ -1,4 +1,4 @@
 use Rattle.recompression.proofs.table.Table.+code_at.Given as goal
 
-abbrev pub decreases-code-at : goal.decreases-code-at
-decreases-code-at l = l.number
+abbrev pub decreases-code_at : goal.decreases-code_at
+decreases-code_at l = l.number

@@ -4,18 +4,18 @@ use Rattle.recompression.specs.Expansions.{written_out}
 use Rattle.recompression.specs.Tables.{in_use}
 use Rattle.recompression.proofs.table.Table.+expand_pair_expand_repeat_expand_row.Given as goal
 
-abbrev pub decreases-expand-pair : goal.decreases-expand-pair
-decreases-expand-pair l = 2 * l.number - 1
+abbrev pub decreases-expand_pair : goal.decreases-expand_pair
+decreases-expand_pair l = 2 * l.number - 1
 
-abbrev pub decreases-expand-repeat : goal.decreases-expand-repeat
-decreases-expand-repeat l = 2 * l.number - 1
+abbrev pub decreases-expand_repeat : goal.decreases-expand_repeat
+decreases-expand_repeat l = 2 * l.number - 1
 
-abbrev pub decreases-expand-row : goal.decreases-expand-row
-decreases-expand-row l = 2 * l.number
+abbrev pub decreases-expand_row : goal.decreases-expand_row
+decreases-expand_row l = 2 * l.number
 
-abbrev pub invariant-expand-repeat-loop-filled : goal.invariant-expand-repeat-loop-filled
-invariant-expand-repeat-loop-filled l =
+abbrev pub invariant-expand_repeat-loop-filled : goal.invariant-expand_repeat-loop-filled
+invariant-expand_repeat-loop-filled l =
     (l.filled ≤ length l.initial.out) × (length l.out ≡ length l.initial.out) × (take l.filled l.out ≡ written_out (in_use l.self.slots) l.number l.start l.filled)
 
-abbrev pub decreases-expand-repeat-loop-filled : goal.decreases-expand-repeat-loop-filled
-decreases-expand-repeat-loop-filled l = length l.initial.out - l.filled
+abbrev pub decreases-expand_repeat-loop-filled : goal.decreases-expand_repeat-loop-filled
+decreases-expand_repeat-loop-filled l = length l.initial.out - l.filled

@@ -7,10 +7,10 @@ use Rattle.recompression.proofs.FileFacts.{numbered_added}
 use Rattle.recompression.proofs.SlotFacts.{length_in_use, appended_rows, appended_sound}
 use Rattle.recompression.proofs.table.Table.add.Goals as goal
 
-pub invariant-of-self : goal.invariant-of-self
-invariant-of-self c =
+pub invariant_of-self : goal.invariant_of-self
+invariant_of-self c =
     let s = c.args.self.now.slots in
-    let made = ap (λ n. appended s (record { shape = c.args.shape; length = n; round = c.args.round })) c.shape-length-length.ensures in
+    let made = ap (λ n. appended s (record { shape = c.args.shape; length = n; round = c.args.round })) c.shape_length-length.ensures in
     (subst Sound (sym (c.append.ensures ∙ made)) (appended_sound s c.args.round c.args.shape (omega arith) c.args.self.now.sound), tt)
 
 pub returns : goal.returns
@@ -19,7 +19,7 @@ returns c =
     let sound = c.args.self.now.sound in
     let long = length_in_use s sound in
     let room : length (in_use s) < 1024 = omega arith in
-    let made = ap (λ n. appended s (record { shape = c.args.shape; length = n; round = c.args.round })) c.shape-length-length.ensures in
+    let made = ap (λ n. appended s (record { shape = c.args.shape; length = n; round = c.args.round })) c.shape_length-length.ensures in
     let filed = numbered_added c.args.round (in_use s) c.args.shape room in
     record {
       number = sym (ap number_in filed ∙ ap (λ n. Some (n + 1)) long);

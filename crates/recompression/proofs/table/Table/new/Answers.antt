@@ -2,8 +2,8 @@
 use Rattle.recompression.proofs.SlotFacts.{none_in_use, blank_sound}
 use Rattle.recompression.proofs.table.Table.new.Goals as goal
 
-pub invariant-of-result : goal.invariant-of-result
-invariant-of-result c = (blank_sound c.new.result c.new.ensures.rows c.new.ensures.count, tt)
+pub invariant_of-result : goal.invariant_of-result
+invariant_of-result c = (blank_sound c.new.result c.new.ensures.rows c.new.ensures.count, tt)
 
 pub returns : goal.returns
 returns c = none_in_use c.new.result c.new.ensures.count

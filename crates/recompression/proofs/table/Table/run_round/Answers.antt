@@ -5,14 +5,14 @@ use Rattle.recompression.specs.Tables.{in_use}
 use Rattle.recompression.proofs.SettleFacts.{odd_blocks, even_blocks}
 use Rattle.recompression.proofs.table.Table.run_round.Goals as goal
 
-pub returns-then-merges-stretches : goal.returns-then-merges-stretches
-returns-then-merges-stretches c =
-    let r = c.stretch-round in
+pub returns-then-merges_stretches : goal.returns-then-merges_stretches
+returns-then-merges_stretches c =
+    let r = c.stretch_round in
     subst (λ bs. Ran c.args.round bs c.args.size (in_use c.args.self.now.slots) r.result (in_use r.new.self.slots) r.new.numbers)
-    (odd_blocks c.args.round (take c.args.size c.args.numbers.now) (sym c.merges-stretches.ensures ∙ c.if-merges-stretches.true)) r.ensures
+    (odd_blocks c.args.round (take c.args.size c.args.numbers.now) (sym c.merges_stretches.ensures ∙ c.if-merges_stretches.true)) r.ensures
 
-pub returns-else-merges-stretches : goal.returns-else-merges-stretches
-returns-else-merges-stretches c =
-    let r = c.pair-round in
+pub returns-else-merges_stretches : goal.returns-else-merges_stretches
+returns-else-merges_stretches c =
+    let r = c.pair_round in
     subst (λ bs. Ran c.args.round bs c.args.size (in_use c.args.self.now.slots) r.result (in_use r.new.self.slots) r.new.numbers)
-    (even_blocks c.args.round (take c.args.size c.args.numbers.now) (sym c.merges-stretches.ensures ∙ c.if-merges-stretches.false)) r.ensures
+    (even_blocks c.args.round (take c.args.size c.args.numbers.now) (sym c.merges_stretches.ensures ∙ c.if-merges_stretches.false)) r.ensures

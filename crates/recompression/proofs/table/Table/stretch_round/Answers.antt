@@ -8,19 +8,19 @@ use Rattle.recompression.proofs.table.Table.stretch_round.Goals as goal
 pub loop-read-init : goal.loop-read-init
 loop-read-init c = going_none c.args.round stretches c.args.size (in_use c.args.self.now.slots) c.args.numbers.now
 
-pub returns-in-err-numbers : goal.returns-in-err-numbers
-returns-in-err-numbers c =
+pub returns-in_err-numbers : goal.returns-in_err-numbers
+returns-in_err-numbers c =
     let l = c.loop-read in
     rw c.from-residual.ensures
     (stretch_full c.args.round c.args.size (in_use c.args.self.now.slots) c.args.numbers.now l.read l.write (in_use l.self.slots) l.numbers l.invariant c.requires.within c.loop-read-test.true
-    c.stretch-from-times.result c.stretch-from-times.ensures.parts (in_use c.file-stretch.new.self.slots) c.in-err-numbers.ensures.number c.in-err-numbers.ensures.rows)
+    c.stretch_from-times.result c.stretch_from-times.ensures.parts (in_use c.file_stretch.new.self.slots) c.in_err-numbers.ensures.number c.in_err-numbers.ensures.rows)
 
 pub loop-read-preserved : goal.loop-read-preserved
 loop-read-preserved c =
     let l = c.loop-read in
-    let times = c.stretch-from-times in
+    let times = c.stretch_from-times in
     stretch_more c.args.round c.args.size (in_use c.args.self.now.slots) c.args.numbers.now l.read l.write (in_use l.self.slots) l.numbers l.invariant c.requires.within c.loop-read-test.true
-    times.result times.ensures.parts times.ensures.some times.ensures.within c.in-ok-numbers.field-0 (in_use c.file-stretch.new.self.slots) c.in-ok-numbers.ensures.number c.in-ok-numbers.ensures.rows
+    times.result times.ensures.parts times.ensures.some times.ensures.within c.in_ok-numbers.field-0 (in_use c.file_stretch.new.self.slots) c.in_ok-numbers.ensures.number c.in_ok-numbers.ensures.rows
 
 pub returns : goal.returns
 returns c =

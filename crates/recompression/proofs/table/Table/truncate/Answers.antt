@@ -5,14 +5,14 @@ use Rattle.recompression.specs.Tables.{in_use, Sound}
 use Rattle.recompression.proofs.SlotFacts.{length_in_use, shortened_rows, shortened_sound}
 use Rattle.recompression.proofs.table.Table.truncate.Goals as goal
 
-pub invariant-of-self : goal.invariant-of-self
-invariant-of-self c = (subst Sound (sym c.remove-last.ensures) (shortened_sound c.loop-self.self.slots (omega arith) c.loop-self.self.sound), tt)
+pub invariant_of-self : goal.invariant_of-self
+invariant_of-self c = (subst Sound (sym c.remove_last.ensures) (shortened_sound c.loop-self.self.slots (omega arith) c.loop-self.self.sound), tt)
 
 pub loop-self-preserved : goal.loop-self-preserved
 loop-self-preserved c =
     let s = c.loop-self.self.slots in
     let n = c.args.count in
-    ap (λ after. take n (in_use after)) c.remove-last.ensures ∙ ap (take n) (shortened_rows s) ∙ take-take n (s.count - 1) (in_use s) (omega arith) ∙ c.loop-self.invariant
+    ap (λ after. take n (in_use after)) c.remove_last.ensures ∙ ap (take n) (shortened_rows s) ∙ take-take n (s.count - 1) (in_use s) (omega arith) ∙ c.loop-self.invariant
 
 pub returns : goal.returns
 returns c =

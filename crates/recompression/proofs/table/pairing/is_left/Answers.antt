@@ -4,4 +4,4 @@ use Rattle.recompression.proofs.table.pairing.is_left.Goals as goal
 
 pub returns : goal.returns
 returns c =
-    left_by_turn c.args.round c.args.number c.saturating-sub.result c.left-in-turn.result c.saturating-sub.ensures c.left-in-turn.ensures
+    left_by_turn c.args.round c.args.number c.saturating_sub.result c.left_in_turn.result c.saturating_sub.ensures c.left_in_turn.ensures

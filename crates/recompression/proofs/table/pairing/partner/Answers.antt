@@ -6,8 +6,8 @@ use Rattle.recompression.proofs.table.pairing.partner.Goals as goal
 pub returns-then-numbers-lt2 : goal.returns-then-numbers-lt2
 returns-then-numbers-lt2 c = partner_none c.args.round c.args.numbers.now c.requires (omega arith)
 
-pub returns-then-makes-pair : goal.returns-then-makes-pair
-returns-then-makes-pair c = partner_joins c.args.round c.args.numbers.now (omega arith) (sym c.if-makes-pair.ensures)
+pub returns-then-makes_pair : goal.returns-then-makes_pair
+returns-then-makes_pair c = partner_joins c.args.round c.args.numbers.now (omega arith) (sym c.if-makes_pair.ensures)
 
 pub returns : goal.returns
-returns c = partner_apart c.args.round c.args.numbers.now (omega arith) (sym c.makes-pair.ensures ∙ c.if-makes-pair.false)
+returns c = partner_apart c.args.round c.args.numbers.now (omega arith) (sym c.makes_pair.ensures ∙ c.if-makes_pair.false)

@@ -25,5 +25,5 @@ any_length rows law n =
 pub returns : goal.returns
 returns c =
     let rows = rows_on c.args.self.now in
-    c.kept-code.ensures
+    c.kept_code.ensures
     ∙ ap (λ l. cond (ltb c.args.place l) (Some (get_or (strip rows c.args.number) c.args.place 0)) None) (any_length rows c.args.self.now.lawful c.args.number)

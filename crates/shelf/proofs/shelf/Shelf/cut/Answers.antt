@@ -4,7 +4,7 @@ use Rattle.rows.specs.Lawful.{Lawful}
 use Rattle.shelf.specs.Contents.{rows_on}
 use Rattle.shelf.proofs.shelf.Shelf.cut.Goals as goal
 
-pub invariant-of-self : goal.invariant-of-self
-invariant-of-self c =
+pub invariant_of-self : goal.invariant_of-self
+invariant_of-self c =
     let shelf = c.args.self.now in
-    (subst Lawful (sym c.cut-in-kind.ensures.outcome.1) (cut_lawful (rows_on shelf) _ _ _ _ shelf.lawful), tt)
+    (subst Lawful (sym c.cut_in_kind.ensures.outcome.1) (cut_lawful (rows_on shelf) _ _ _ _ shelf.lawful), tt)

@@ -5,8 +5,8 @@ use Rattle.shelf.specs.Contents.{rows_on}
 use Rattle.shelf.proofs.CellLoop.{code_inside, filled_more, filled_all}
 use Rattle.shelf.proofs.shelf.Shelf.fill.Goals as goal
 
-pub overflow-add-start : goal.overflow-add-start
-overflow-add-start g c =
+pub overflow_add-start : goal.overflow_add-start
+overflow_add-start g c =
     let shelf = c.args.self.now in
     omega (arith, strip_short (rows_on shelf) shelf.lawful c.args.number)
 
@@ -14,7 +14,7 @@ pub unreachable-requires : goal.unreachable-requires
 unreachable-requires g c =
     let shelf = c.args.self.now in
     let found = code_inside (rows_on shelf) shelf.lawful c.args.number (c.args.start + c.loop-i.i) c.requires.known (omega arith) in
-    let none = c.in-default.ensures ∙ found in
+    let none = c.in_default.ensures ∙ found in
     let z : ◌≡◌ {A = ℕ} 0 1 = cc in omega arith
 
 pub loop-i-preserved : goal.loop-i-preserved

@@ -20,20 +20,20 @@ returns g c =
     let requests = c.args.requests.now in
     let count = c.min-count.result in
     let whole : count - 0 ≡ count = omega arith in
-    let long : length c.send-all.new.answers ≡ count = search rules in
+    let long : length c.send_all.new.answers ≡ count = search rules in
     let sents = calls_sent area (take count requests) in
-    let told_are : map told (take count (c.send-all.new.answers ++ drop (count - 0) c.args.answers.now)) ≡ answers_of same_kind K.coded (rows_on shelf) sents =
-    ap (map told) (take_at c.send-all.new.answers (drop (count - 0) c.args.answers.now) count long) ∙ c.send-all.ensures.answers
+    let told_are : map told (take count (c.send_all.new.answers ++ drop (count - 0) c.args.answers.now)) ≡ answers_of same_kind K.coded (rows_on shelf) sents =
+    ap (map told) (take_at c.send_all.new.answers (drop (count - 0) c.args.answers.now) count long) ∙ c.send_all.ensures.answers
     ∙ ap (λ k. answers_of same_kind K.coded (rows_on shelf) (calls_sent area (take k requests))) whole in
-    let rows_are : rows_on c.send-all.new.self ≡ rows_after same_kind K.coded (rows_on shelf) sents =
-    c.send-all.ensures.rows ∙ ap (λ k. rows_after same_kind K.coded (rows_on shelf) (calls_sent area (take k requests))) whole in
+    let rows_are : rows_on c.send_all.new.self ≡ rows_after same_kind K.coded (rows_on shelf) sents =
+    c.send_all.ensures.rows ∙ ap (λ k. rows_after same_kind K.coded (rows_on shelf) (calls_sent area (take k requests))) whole in
     let kind_laws : KindLaws K.coded K.has K.given K.same = record { alike = laws.alike; known = laws.known; back = laws.back } in
     record {
       performed = c.min-count.ensures;
       rows = rows_are;
       answers = told_are;
-      others = drop_at c.send-all.new.answers (drop (count - 0) c.args.answers.now) count long ∙ ap (λ k. drop k c.args.answers.now) whole;
-      kind = c.send-all.ensures.kind;
+      others = drop_at c.send_all.new.answers (drop (count - 0) c.args.answers.now) count long ∙ ap (λ k. drop k c.args.answers.now) whole;
+      kind = c.send_all.ensures.kind;
       cleared = search rules;
       kept = λ of_kind. subst (OfKind K.has) (sym rows_are) (ran same_kind K.coded K.has K.given K.same kind_laws (rows_on shelf) shelf.lawful of_kind sents).of_kind;
       law = λ of_kind. subst (λ xs. OneNumber K.same xs (strips_of same_kind K.coded K.given (rows_on shelf) sents)) (sym told_are)

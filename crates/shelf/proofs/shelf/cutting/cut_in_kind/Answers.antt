@@ -8,7 +8,7 @@ use Rattle.shelf.proofs.shelf.cutting.cut_in_kind.Goals as goal
 pub returns : goal.returns
 returns c =
     record {
-      outcome = c.cut-on.ensures;
-      kept = λ has of_kind. subst (OfKind has) (sym c.cut-on.ensures.1) (cut_of_kind has (rows_in c.args.table.now) of_kind c.args.number c.args.start c.args.size (length c.args.work.now));
-      back = stays_from _ c.cut-on.result _ _ c.cut-on.ensures (cut_stays (rows_in c.args.table.now) c.args.number c.args.start c.args.size (length c.args.work.now) c.requires);
+      outcome = c.cut_on.ensures;
+      kept = λ has of_kind. subst (OfKind has) (sym c.cut_on.ensures.1) (cut_of_kind has (rows_in c.args.table.now) of_kind c.args.number c.args.start c.args.size (length c.args.work.now));
+      back = stays_from _ c.cut_on.result _ _ c.cut_on.ensures (cut_stays (rows_in c.args.table.now) c.args.number c.args.start c.args.size (length c.args.work.now) c.requires);
     }

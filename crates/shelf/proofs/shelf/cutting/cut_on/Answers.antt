@@ -27,4 +27,4 @@ pub returns : goal.returns
 returns c =
     let rows = rows_in c.args.table.now in
     settled_cut rows c.requires c.args.number c.args.start c.args.size (length c.args.work.now) (omega arith) (omega arith)
-    c.settle-leaves.result (rows_in c.settle-leaves.new.table) c.expand-part.new.out (omega arith) c.expand-part.ensures c.settle-leaves.ensures
+    c.settle_leaves.result (rows_in c.settle_leaves.new.table) c.expand_part.new.out (omega arith) c.expand_part.ensures c.settle_leaves.ensures

@@ -12,7 +12,7 @@ returns c =
     let right = c.args.right in
     let l : c.from-middle.result ≡ (row_of rows left).length = omega arith in
     let r : c.from-rest.result ≡ (row_of rows right).length = omega arith in
-    let long : length c.expand-part.new.out ≡ c.from-middle.result = search rules in
-    both_written c.expand-part.new.out _ c.expand-part-2.new.out c.from-middle.result long
-    ∙ ap (λ xs. xs ++ c.expand-part-2.new.out) (c.expand-part.ensures ∙ ap (written_out rows left 0) l)
-    ∙ ap (λ xs. written_out rows left 0 (row_of rows left).length ++ xs) (c.expand-part-2.ensures ∙ ap (written_out rows right 0) r)
+    let long : length c.expand_part.new.out ≡ c.from-middle.result = search rules in
+    both_written c.expand_part.new.out _ c.expand_part-2.new.out c.from-middle.result long
+    ∙ ap (λ xs. xs ++ c.expand_part-2.new.out) (c.expand_part.ensures ∙ ap (written_out rows left 0) l)
+    ∙ ap (λ xs. written_out rows left 0 (row_of rows left).length ++ xs) (c.expand_part-2.ensures ∙ ap (written_out rows right 0) r)

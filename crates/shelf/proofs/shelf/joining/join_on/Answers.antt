@@ -14,18 +14,18 @@ returns-then-from-count c =
     ] in
     join_unknown rows c.requires c.args.left c.args.right (length c.args.work.now) _ past refl
 
-pub returns-then-length-gt-MAX-CELLS : goal.returns-then-length-gt-MAX-CELLS
-returns-then-length-gt-MAX-CELLS c =
+pub returns-then-length-gt-MAX_CELLS : goal.returns-then-length-gt-MAX_CELLS
+returns-then-length-gt-MAX_CELLS c =
     join_too_long (rows_in c.args.table.now) c.requires c.args.left c.args.right (length c.args.work.now) (omega arith) (omega arith)
-    c.joint-length-length.result (omega arith) _ (omega arith) refl
+    c.joint_length-length.result (omega arith) _ (omega arith) refl
 
 pub returns-then-work-length : goal.returns-then-work-length
 returns-then-work-length c =
     join_small_work (rows_in c.args.table.now) c.requires c.args.left c.args.right (length c.args.work.now) (omega arith) (omega arith)
-    c.joint-length-length.result (omega arith) (omega arith) _ (omega arith) refl
+    c.joint_length-length.result (omega arith) (omega arith) _ (omega arith) refl
 
 pub returns : goal.returns
 returns c =
     join_settled (rows_in c.args.table.now) c.requires c.args.left c.args.right (length c.args.work.now) (omega arith) (omega arith)
-    c.joint-length-length.result (omega arith) (omega arith)
-    c.settle-leaves.result (rows_in c.settle-leaves.new.table) c.expand-both.new.numbers (omega arith) c.expand-both.ensures c.settle-leaves.ensures
+    c.joint_length-length.result (omega arith) (omega arith)
+    c.settle_leaves.result (rows_in c.settle_leaves.new.table) c.expand_both.new.numbers (omega arith) c.expand_both.ensures c.settle_leaves.ensures

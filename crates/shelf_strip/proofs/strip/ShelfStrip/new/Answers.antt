@@ -2,5 +2,5 @@
 use Rattle.shelf_strip.proofs.LengthFacts.{short_strip}
 use Rattle.shelf_strip.proofs.strip.ShelfStrip.new.Goals as goal
 
-pub invariant-of-result : goal.invariant-of-result
-invariant-of-result c = (short_strip _ c.args.shelf.now.lawful _, tt)
+pub invariant_of-result : goal.invariant_of-result
+invariant_of-result c = (short_strip _ c.args.shelf.now.lawful _, tt)
