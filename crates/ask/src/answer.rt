@@ -28,7 +28,7 @@ const UNUSED: Progression = Progression {
 
 // The records of a fragment's periods.
 fn periods_of<K: Keeper>(keeper: &K, fragment: Fragment) -> Result<[Progression; RECORDS], Refusal>
-    ensures { outcome result ≡ periods_outcome (codes keeper.now) fragment }
+    ensures { outcome result ≡ periods_outcome (K.codes keeper.now) fragment }
 {
     let mut records = [UNUSED; RECORDS];
     periods(keeper, fragment, &mut records)?;
@@ -37,7 +37,7 @@ fn periods_of<K: Keeper>(keeper: &K, fragment: Fragment) -> Result<[Progression;
 
 // Asks about the codes that a keeper stands for.
 pub fn ask<K: Keeper>(keeper: &K, question: Question) -> Answer
-    ensures { reply_of result ≡ reply_to question (codes keeper.now) }
+    ensures { reply_of result ≡ reply_to question (K.codes keeper.now) }
 {
     match question {
         Question::Places { pattern, field } => Answer::Places(places(keeper, pattern, field)),
@@ -51,7 +51,7 @@ pub fn ask<K: Keeper>(keeper: &K, question: Question) -> Answer
 }
 
 fn ask_turned<K: Keeper>(keeper: &K, reversed: bool, question: Question) -> Answer
-    ensures { reply_of result ≡ reply_to question (turned reversed (codes keeper.now)) }
+    ensures { reply_of result ≡ reply_to question (turned reversed (K.codes keeper.now)) }
 {
     if reversed {
         ask(&Reversed { below: keeper }, question)
@@ -62,7 +62,7 @@ fn ask_turned<K: Keeper>(keeper: &K, reversed: bool, question: Question) -> Answ
 
 // Asks about the codes that are seen through the layers.
 pub fn ask_through<K: Keeper>(keeper: &K, layers: Layers, question: Question) -> Answer
-    ensures { reply_of result ≡ reply_to question (seen_through layers (codes keeper.now)) }
+    ensures { reply_of result ≡ reply_to question (seen_through layers (K.codes keeper.now)) }
 {
     match layers.window {
         Some(part) => ask_turned(

@@ -10,7 +10,7 @@ use periodicity::Fragment;
 
 // Whether the fragment lies in the strip; any numbers will do.
 pub(crate) fn lies_in<K: Keeper>(keeper: &K, fragment: Fragment) -> bool
-    ensures { result ≡ inside (codes keeper.now) fragment }
+    ensures { result ≡ inside (K.codes keeper.now) fragment }
 {
     let len = keeper.len();
     fragment.start <= len && fragment.length <= len - fragment.start
@@ -18,9 +18,9 @@ pub(crate) fn lies_in<K: Keeper>(keeper: &K, fragment: Fragment) -> bool
 
 // How many codes agree from two places of the strip on.
 pub(crate) fn common_ahead<K: Keeper>(keeper: &K, i: usize, j: usize) -> usize
-    requires i_in_bounds { i ≤ length (codes keeper.now) }
-    requires j_in_bounds { j ≤ length (codes keeper.now) }
-    ensures { Greatest (drop i (codes keeper.now)) (drop j (codes keeper.now)) result }
+    requires i_in_bounds { i ≤ length (K.codes keeper.now) }
+    requires j_in_bounds { j ≤ length (K.codes keeper.now) }
+    ensures { Greatest (drop i (K.codes keeper.now)) (drop j (K.codes keeper.now)) result }
 {
     match keeper.ahead(i, j) {
         Some(agreeing) => agreeing,

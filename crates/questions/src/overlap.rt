@@ -22,11 +22,11 @@ fn longest_overlap<K: Keeper>(
     least: usize,
     end: usize,
 ) -> Option<usize>
-    requires first { first.start + first.length ≤ length (codes keeper.now) }
-    requires second { second.start + second.length ≤ length (codes keeper.now) }
+    requires first { first.start + first.length ≤ length (K.codes keeper.now) }
+    requires second { second.start + second.length ≤ length (K.codes keeper.now) }
     requires in_first { end ≤ first.length + 1 }
     requires in_second { end ≤ second.length + 1 }
-    ensures { GreatestFrom (is_overlap (cut (codes keeper.now) first) (cut (codes keeper.now) second)) least end result }
+    ensures { GreatestFrom (is_overlap (cut (K.codes keeper.now) first) (cut (K.codes keeper.now) second)) least end result }
 {
     for size in (least..end).rev() {
         let suffix = second.start + (second.length - size);
@@ -80,10 +80,10 @@ pub(crate) fn overlaps_from<K: Keeper>(
     second: Fragment,
     least: usize,
 ) -> Option<Progression>
-    requires first { first.start + first.length ≤ length (codes keeper.now) }
-    requires second { second.start + second.length ≤ length (codes keeper.now) }
+    requires first { first.start + first.length ≤ length (K.codes keeper.now) }
+    requires second { second.start + second.length ≤ length (K.codes keeper.now) }
     requires some { 0 < least }
-    ensures { Tells (is_overlap (cut (codes keeper.now) first) (cut (codes keeper.now) second)) least (least + least) result }
+    ensures { Tells (is_overlap (cut (K.codes keeper.now) first) (cut (K.codes keeper.now) second)) least (least + least) result }
 {
     let room = first.length.min(second.length);
     if least > room {
@@ -116,8 +116,8 @@ pub fn overlaps<K: Keeper>(
     second: Fragment,
     least: usize,
 ) -> Result<Option<Progression>, Refusal>
-    ensures value { outcome result ≡ overlaps_outcome (codes keeper.now) first second least }
-    ensures law { OverlapsLaw (codes keeper.now) first second least result }
+    ensures value { outcome result ≡ overlaps_outcome (K.codes keeper.now) first second least }
+    ensures law { OverlapsLaw (K.codes keeper.now) first second least result }
 {
     if !lies_in(keeper, first) || !lies_in(keeper, second) {
         return Err(Refusal::FragmentLeavesStrip);

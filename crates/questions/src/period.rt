@@ -45,10 +45,10 @@ fn borders_record(fragment: Fragment, borders: Progression) -> Progression
 // The record of the periods whose borders are from 2^range to 2^(range + 1) - 1. A border shorter than the
 // fragment is an overlap of the fragment without its last code and without its first.
 fn range_record<K: Keeper>(keeper: &K, fragment: Fragment, range: u32) -> Option<Progression>
-    requires lies { fragment.start + fragment.length ≤ length (codes keeper.now) }
+    requires lies { fragment.start + fragment.length ≤ length (K.codes keeper.now) }
     requires some { 1 ≤ fragment.length }
     requires range { range < 16 }
-    ensures { result ≡ told (periods_in (cut (codes keeper.now) fragment) range) }
+    ensures { result ≡ told (periods_in (cut (K.codes keeper.now) fragment) range) }
 {
     let rest = fragment.length - 1;
     let front = Fragment {
@@ -67,11 +67,11 @@ fn range_record<K: Keeper>(keeper: &K, fragment: Fragment, range: u32) -> Option
 
 // Writes the records of the 16 ranges, greatest borders first, and says how many there are.
 fn write_ranges<K: Keeper>(keeper: &K, fragment: Fragment, records: &mut [Progression]) -> usize
-    requires lies { fragment.start + fragment.length ≤ length (codes keeper.now) }
+    requires lies { fragment.start + fragment.length ≤ length (K.codes keeper.now) }
     requires some { 1 ≤ fragment.length }
     requires room { 17 ≤ length records.old }
     ensures few { result ≤ 16 }
-    ensures written { take result records.new ++ records_below (cut (codes keeper.now) fragment) 0 ≡ records_below (cut (codes keeper.now) fragment) 16 }
+    ensures written { take result records.new ++ records_below (cut (K.codes keeper.now) fragment) 0 ≡ records_below (cut (K.codes keeper.now) fragment) 16 }
     ensures rest { drop result records.new ≡ drop result records.old }
 {
     let mut used = 0;
@@ -107,10 +107,10 @@ pub fn periods<K: Keeper>(
     fragment: Fragment,
     records: &mut [Progression],
 ) -> Result<(), Refusal>
-    ensures value { outcome result ≡ checked (periods_check (codes keeper.now) fragment (length records.old)) tt }
-    ensures written { records.new ≡ after_periods (periods_check (codes keeper.now) fragment (length records.old)) (cut (codes keeper.now) fragment) records.old }
-    ensures law { PeriodsLaw (codes keeper.now) fragment (length records.old) records.new result }
-    ensures named { PeriodsNamedLaw (codes keeper.now) fragment (length records.old) records.new result }
+    ensures value { outcome result ≡ checked (periods_check (K.codes keeper.now) fragment (length records.old)) tt }
+    ensures written { records.new ≡ after_periods (periods_check (K.codes keeper.now) fragment (length records.old)) (cut (K.codes keeper.now) fragment) records.old }
+    ensures law { PeriodsLaw (K.codes keeper.now) fragment (length records.old) records.new result }
+    ensures named { PeriodsNamedLaw (K.codes keeper.now) fragment (length records.old) records.new result }
 {
     if !lies_in(keeper, fragment) {
         return Err(Refusal::FragmentLeavesStrip);

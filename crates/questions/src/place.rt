@@ -14,9 +14,9 @@ use periodicity::{Fragment, Progression};
 
 // The first place from `from` on and below `end` where the pattern's codes stand.
 fn next_place<K: Keeper>(keeper: &K, pattern: Fragment, from: usize, end: usize) -> Option<usize>
-    requires pattern { pattern.start + pattern.length ≤ length (codes keeper.now) }
-    requires room { end + pattern.length ≤ length (codes keeper.now) + 1 }
-    ensures { LeastFrom (is_place (codes keeper.now) pattern) from end result }
+    requires pattern { pattern.start + pattern.length ≤ length (K.codes keeper.now) }
+    requires room { end + pattern.length ≤ length (K.codes keeper.now) + 1 }
+    ensures { LeastFrom (is_place (K.codes keeper.now) pattern) from end result }
 {
     for i in from..end {
         if common_ahead(keeper, pattern.start, i) >= pattern.length {
@@ -59,10 +59,10 @@ impl FirstTwo {
 // All places in a field shorter than twice the pattern. The first two fix the step, since places so near
 // to each other stand in a progression; how far the strip repeats by that step fixes the count.
 fn places_in<K: Keeper>(keeper: &K, pattern: Fragment, field: Fragment) -> Option<Progression>
-    requires pattern { pattern.start + pattern.length ≤ length (codes keeper.now) }
-    requires room { field.start + field.length ≤ length (codes keeper.now) }
+    requires pattern { pattern.start + pattern.length ≤ length (K.codes keeper.now) }
+    requires room { field.start + field.length ≤ length (K.codes keeper.now) }
     requires near { field.length < 2 * pattern.length }
-    ensures { Tells (is_place (codes keeper.now) pattern) field.start (field.start + (field.length + 1 - pattern.length)) result }
+    ensures { Tells (is_place (K.codes keeper.now) pattern) field.start (field.start + (field.length + 1 - pattern.length)) result }
 {
     if field.length < pattern.length {
         return None;
@@ -96,8 +96,8 @@ pub fn places<K: Keeper>(
     pattern: Fragment,
     field: Fragment,
 ) -> Result<Option<Progression>, Refusal>
-    ensures value { outcome result ≡ places_outcome (codes keeper.now) pattern field }
-    ensures law { PlacesLaw (codes keeper.now) pattern field result }
+    ensures value { outcome result ≡ places_outcome (K.codes keeper.now) pattern field }
+    ensures law { PlacesLaw (K.codes keeper.now) pattern field result }
 {
     if !lies_in(keeper, pattern) || !lies_in(keeper, field) {
         return Err(Refusal::FragmentLeavesStrip);

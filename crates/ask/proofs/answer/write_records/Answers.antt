@@ -11,7 +11,7 @@ pub loop-record-preserved : goal.loop-record-preserved
 loop-record-preserved g c =
     let full : length c.args.records ≡ 17 = search rules in
     elim c.if-record-gt0.branch [
-      | then-record-gt0+in_ok-write w ↦ rw (w.before-is, w.f-is) (search rules, sofar_more g.W.Write.write_str_gives c.args.f.now c.args.records c.loop-record.before.now c.loop-record.record-index c.loop-record.f c.loop-record.invariant.1 w.write.new.self (omega arith) w.if-record-gt0.true (λ plain. w.in_ok-write.ensures.shows plain refl))
+      | then-record-gt0+in_ok-write w ↦ rw (w.before-is, w.f-is) (search rules, sofar_more g.W.Write.write_str_gives c.args.f.now c.args.records c.loop-record.before.now c.loop-record.record-index c.loop-record.f c.loop-record.invariant.1 w.write.new.self (omega arith) w.if-record-gt0.true (λ plain. w.in_ok-write.ensures.writes plain refl))
       | else-record-gt0 w ↦ rw (w.before-is, w.f-is) (c.loop-record.invariant.0, sofar_skip g.W.Write.write_str_gives c.args.f.now c.args.records c.loop-record.before.now c.loop-record.record-index c.loop-record.f c.loop-record.invariant.1 (omega arith) (omega (arith, w.if-record-gt0.false)))
     ]
 

@@ -4,7 +4,7 @@ use Rattle.ask.proofs.Decimals.{narrow_none, narrow_some, narrow_over}
 use Rattle.ask.proofs.number.code.Goals as goal
 
 pub returns-in_err-number : goal.returns-in_err-number
-returns-in_err-number c = rw c.from-residual.ensures (sym (narrow_none (2 ^ 32) (2 ^ 64) c.args.word.now (omega arith) (sym c.in_err-number.ensures)))
+returns-in_err-number c = rw c.from_residual.ensures (sym (narrow_none (2 ^ 32) (2 ^ 64) c.args.word.now (omega arith) (sym c.in_err-number.ensures)))
 
 pub returns-in-Ok : goal.returns-in-Ok
 returns-in-Ok c =

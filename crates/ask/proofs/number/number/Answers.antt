@@ -15,11 +15,11 @@ returns-then-not-is_ascii_digit c =
 
 pub returns-in_err-checked_mul : goal.returns-in_err-checked_mul
 returns-in_err-checked_mul c =
-    rw c.from-residual.ensures (sym (c.loop-byte.invariant.1 ∙ read_past (2 ^ 64) c.loop-byte.value c.args.word.now c.loop-byte.byte-index c.loop-byte-test.true (sym c.if-not-is_ascii_digit.ensures.value) (omega (arith, c.in_err-checked_mul.ensures))))
+    rw c.from_residual.ensures (sym (c.loop-byte.invariant.1 ∙ read_past (2 ^ 64) c.loop-byte.value c.args.word.now c.loop-byte.byte-index c.loop-byte-test.true (sym c.if-not-is_ascii_digit.ensures.value) (omega (arith, c.in_err-checked_mul.ensures))))
 
 pub returns-in_err-value : goal.returns-in_err-value
 returns-in_err-value c =
-    rw c.from-residual-in_err-value.ensures (sym (c.loop-byte.invariant.1 ∙ read_past (2 ^ 64) c.loop-byte.value c.args.word.now c.loop-byte.byte-index c.loop-byte-test.true (sym c.if-not-is_ascii_digit.ensures.value) (omega (arith, c.in_err-value.ensures, c.in_ok-checked_mul.ensures))))
+    rw c.from_residual-in_err-value.ensures (sym (c.loop-byte.invariant.1 ∙ read_past (2 ^ 64) c.loop-byte.value c.args.word.now c.loop-byte.byte-index c.loop-byte-test.true (sym c.if-not-is_ascii_digit.ensures.value) (omega (arith, c.in_err-value.ensures, c.in_ok-checked_mul.ensures))))
 
 pub loop-byte-preserved : goal.loop-byte-preserved
 loop-byte-preserved c =

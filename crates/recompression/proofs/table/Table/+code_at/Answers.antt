@@ -7,7 +7,7 @@ use Rattle.recompression.proofs.CodeFacts.{unknown_code, seen, part_falls, code_
 use Rattle.recompression.proofs.table.Table.+code_at.Goals as goal
 
 pub returns-in_err-row : goal.returns-in_err-row
-returns-in_err-row t c = c.from-residual.ensures ∙ unknown_code (rows_in c.args.self.now) c.args.number c.args.place c.in_err-row.ensures
+returns-in_err-row t c = c.from_residual.ensures ∙ unknown_code (rows_in c.args.self.now) c.args.number c.args.place c.in_err-row.ensures
 
 pub code_at-requires-else-place-first : goal.code_at-requires-else-place-first
 code_at-requires-else-place-first t c =

@@ -11,7 +11,7 @@ pub invariant_of-self : goal.invariant_of-self
 invariant_of-self c =
     let s = c.args.self.now.slots in
     let made = ap (λ n. appended s (record { shape = c.args.shape; length = n; round = c.args.round })) c.shape_length-length.ensures in
-    (subst Sound (sym (c.append.ensures ∙ made)) (appended_sound s c.args.round c.args.shape (omega arith) c.args.self.now.sound), tt)
+    record { sound = subst Sound (sym (c.append.ensures ∙ made)) (appended_sound s c.args.round c.args.shape (omega arith) c.args.self.now.sound) }
 
 pub returns : goal.returns
 returns c =

@@ -11,7 +11,7 @@ loop-size-init c = running_none (in_use c.args.self.now.slots) c.args.numbers.no
 pub returns-in_err-size : goal.returns-in_err-size
 returns-in_err-size c =
     let l = c.loop-size in
-    rw c.from-residual.ensures
+    rw c.from_residual.ensures
     (running_full (in_use c.args.self.now.slots) c.args.numbers.now c.rounds_for-most.result l.round l.size (in_use l.self.slots) l.numbers l.invariant
     c.loop-size-test.true c.if-round-most.true (in_use c.run_round.new.self.slots) c.run_round.new.numbers c.in_err-size.ensures)
 

@@ -11,7 +11,7 @@ loop-read-init c = going_none c.args.round stretches c.args.size (in_use c.args.
 pub returns-in_err-numbers : goal.returns-in_err-numbers
 returns-in_err-numbers c =
     let l = c.loop-read in
-    rw c.from-residual.ensures
+    rw c.from_residual.ensures
     (stretch_full c.args.round c.args.size (in_use c.args.self.now.slots) c.args.numbers.now l.read l.write (in_use l.self.slots) l.numbers l.invariant c.requires.within c.loop-read-test.true
     c.stretch_from-times.result c.stretch_from-times.ensures.parts (in_use c.file_stretch.new.self.slots) c.in_err-numbers.ensures.number c.in_err-numbers.ensures.rows)
 

@@ -6,7 +6,7 @@ use Rattle.recompression.proofs.SlotFacts.{length_in_use, shortened_rows, shorte
 use Rattle.recompression.proofs.table.Table.truncate.Goals as goal
 
 pub invariant_of-self : goal.invariant_of-self
-invariant_of-self c = (subst Sound (sym c.remove_last.ensures) (shortened_sound c.loop-self.self.slots (omega arith) c.loop-self.self.sound), tt)
+invariant_of-self c = record { sound = subst Sound (sym c.remove_last.ensures) (shortened_sound c.loop-self.self.slots (omega arith) c.loop-self.self.sound) }
 
 pub loop-self-preserved : goal.loop-self-preserved
 loop-self-preserved c =
