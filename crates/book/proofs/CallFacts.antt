@@ -1,9 +1,9 @@
 -- Calls of the book, check by check: what each comes to, that rows stay lawful, and that a strip that was
 -- answered stands under its number. Assumes nothing.
-use Rattle.std.proofs.Common.{◌≡◌, ℕ, ◌+◌, ◌<◌, ◌≤◌, min, Bool, true, false, cond, ◌&&◌, ltb, leb, ◌⊎◌, List, [], ◌∷◌, ◌++◌, map, length, take, drop, Some, None, Option, unwrap_or, sym, refl, ap, ◌∙◌, subst, inl, inr, arith, length-append, length-drop, length-take}
+use Rattle.std.proofs.Common.{◌≡◌, ℕ, ◌+◌, ◌<◌, ◌≤◌, Bool, true, false, cond, ◌&&◌, ltb, leb, ◌⊎◌, List, ◌++◌, map, length, drop, Some, None, Option, unwrap_or, sym, refl, ap, ◌∙◌, subst, inl, inr, arith, length-append, length-drop, length-take}
 use lib.ListN.{length-map}
 use Rattle.std.proofs.ByRecursion.{All-append}
-use Rattle.std.proofs.lemmas.Bool.{cases_Bool, cases_lt, cond-true, cond-false, and_from, and_left, and_right, le-leb, lt-leb, leb-true, leb-false}
+use Rattle.std.proofs.lemmas.Bool.{cases_Bool, cases_lt, cond-true, cond-false, and_from, and_left, and_right, le-leb, lt-leb, leb-true}
 use Rattle.std.specs.List.{AllZip}
 use Rattle.cells.specs.Printing.{first_unprintable}
 use Rattle.rows.specs.declared.Row.{Row}
@@ -11,11 +11,11 @@ use Rattle.rows.specs.Lawful.{Lawful}
 use Rattle.rows.specs.Rounds.{Settled, settle, number_left}
 use Rattle.rows.specs.Strips.{strip}
 use Rattle.rows.proofs.OneNumber.{Stands, settled_stands, stands_append}
-use Rattle.rows.proofs.SettleFacts.{Settles, settles}
+use Rattle.rows.proofs.SettleFacts.{settles}
 use Rattle.rows.proofs.ShapeFacts.{settle_shapes}
-use Rattle.book.specs.Calls.{Answer, answered, refused, refused_at, Turn, refusing, settling, filing, printed, printing, taken, is_known, joined_up, part_of, cut_out}
+use Rattle.book.specs.Calls.{answered, refused, Turn, refusing, settling, filing, printed, printing, taken, is_known, joined_up, part_of, cut_out}
 use Rattle.book.specs.Laws.{leaf_of_kind, OfKind}
-use Rattle.book.proofs.CodeFacts.{KindLaws, CodesOf, HasAll, has_take, has_drop, strip_has, codes_given, has_codes, same_from_codes, printed_codes}
+use Rattle.book.proofs.CodeFacts.{KindLaws, HasAll, has_take, has_drop, strip_has, codes_given, has_codes, same_from_codes, printed_codes}
 use Rattle.book.proofs.RunFacts.{strip_short}
 
 -- a strip that is filed

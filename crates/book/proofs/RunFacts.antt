@@ -1,15 +1,14 @@
 -- One strip has one number, one number has one strip, over any list of calls. Assumes nothing.
-use Rattle.std.proofs.Common.{◌≡◌, ℕ, zero, suc, ◌+◌, ◌<◌, ◌≤◌, Bool, true, false, ◌⊎◌, ◌↔◌, List, [], ◌∷◌, ◌++◌, map, length, get_or, drop, Some, None, Option, sym, refl, ap, ◌∙◌, subst, inl, inr, arith}
+use Rattle.std.proofs.Common.{◌≡◌, ℕ, zero, suc, ◌≤◌, Bool, List, [], ◌∷◌, ◌++◌, length, get_or, Option, sym, refl, ap, ◌∙◌, subst, inl, inr, arith}
 use Rattle.std.proofs.lemmas.List.{append-nil, append_assoc, get_or_past}
 use Rattle.std.proofs.lemmas.Bool.{cases_lt}
-use Rattle.std.specs.List.{AllZip}
 use Rattle.rows.specs.declared.Row.{Row}
 use Rattle.rows.specs.Lawful.{Lawful}
 use Rattle.rows.specs.Strips.{strips_from, strip}
 use Rattle.rows.proofs.LawfulFacts.{row_lawful}
 use Rattle.rows.proofs.StripFacts.{length_strips}
 use Rattle.rows.proofs.OneNumber.{Stands, stands_append, one_number}
-use Rattle.book.specs.Calls.{Call, taking, joining, cutting, Answer, answered, refused, Turn, turn, wrote}
+use Rattle.book.specs.Calls.{Call, taking, joining, cutting, turn, wrote}
 use Rattle.book.specs.Laws.{OfKind, Answered, OneNumber}
 use Rattle.book.specs.Runs.{Sent, rows_after, answers_of, strips_of}
 use Rattle.book.proofs.CodeFacts.{KindLaws, CodesOf, same_from_codes, codes_from_same}

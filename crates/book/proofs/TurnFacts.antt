@@ -1,20 +1,19 @@
 -- What one call does to the book: rows only grow and stay lawful and of their kind, and an answered call's
 -- strip stands under its number. Assumes nothing.
-use Rattle.std.proofs.Common.{◌≡◌, ℕ, zero, suc, ◌+◌, ◌<◌, ◌≤◌, min, Bool, true, false, cond, ◌&&◌, ltb, leb, ◌⊎◌, List, [], ◌∷◌, ◌++◌, map, length, take, drop, Some, None, Option, unwrap_or, sym, refl, ap, ◌∙◌, subst, inl, inr, arith, length-append, length-drop, length-take}
+use Rattle.std.proofs.Common.{◌≡◌, ℕ, ◌+◌, ◌≤◌, Bool, true, false, cond, ◌&&◌, ltb, leb, List, [], ◌++◌, map, length, drop, Some, None, Option, unwrap_or, sym, refl, subst, inl, inr, arith, length-append, length-drop, length-take}
 use lib.ListN.{length-map}
 use Rattle.std.proofs.ByRecursion.{All-append}
 use Rattle.std.proofs.lemmas.List.{append-nil}
 use Rattle.std.proofs.lemmas.Bool.{cases_Bool, cond-true, cond-false, leb-true}
 use Rattle.cells.specs.Printing.{first_unprintable}
-use Rattle.rows.specs.declared.Shape.{Shape}
 use Rattle.rows.specs.declared.Row.{Row}
 use Rattle.rows.specs.Lawful.{Lawful}
 use Rattle.rows.specs.Rounds.{Settled, settle, number_left}
 use Rattle.rows.specs.Strips.{strip}
 use Rattle.rows.proofs.OneNumber.{Stands, settled_stands}
-use Rattle.rows.proofs.SettleFacts.{Settles, settles}
+use Rattle.rows.proofs.SettleFacts.{settles}
 use Rattle.rows.proofs.ShapeFacts.{settle_shapes}
-use Rattle.book.specs.Calls.{Call, taking, joining, cutting, Answer, answered, refused, refused_at, Turn, refusing, settling, filing, printed, printing, taken, is_known, joined_up, part_of, cut_out, turn, wrote}
+use Rattle.book.specs.Calls.{Answer, answered, refused, refused_at, Turn, refusing, settling, filing, printed, printing, taken, is_known, joined_up, part_of, cut_out}
 use Rattle.book.specs.Laws.{leaf_of_kind, OfKind}
 use Rattle.book.proofs.CodeFacts.{KindLaws, CodesOf, HasAll, has_take, has_drop, strip_has, codes_given, has_codes, printed_codes}
 

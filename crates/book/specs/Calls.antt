@@ -1,5 +1,5 @@
 -- What a take, a join or a cut writes, answers and leaves. Assumes nothing.
-use Rattle.std.specs.Prelude.{ℕ, ◌+◌, Bool, true, false, cond, ◌&&◌, List, ◌++◌, map, length, take, drop, Some, None, Option, nat_le, nat_lt}
+use Rattle.std.specs.Prelude.{ℕ, ◌+◌, Bool, cond, ◌&&◌, List, ◌++◌, map, length, take, drop, Some, None, Option, nat_le, nat_lt}
 use Rattle.std.specs.Option.{unwrap_or}
 use Rattle.cells.specs.Printing.{first_unprintable}
 use Rattle.rows.specs.declared.Row.{Row}

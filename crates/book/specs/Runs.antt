@@ -1,7 +1,7 @@
 -- Lists of calls, each with the number of work places that it may use. Assumes nothing.
 use Rattle.std.specs.Prelude.{ℕ, Bool, List, [], ◌∷◌, Option}
 use Rattle.rows.specs.declared.Row.{Row}
-use Rattle.book.specs.Calls.{Call, Answer, Turn, turn, wrote}
+use Rattle.book.specs.Calls.{Call, Answer, turn, wrote}
 
 pub record Sent (C : Type 0) : Type 0 where
   pub call : Call C

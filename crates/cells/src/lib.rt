@@ -12,6 +12,8 @@
 //    for a code that it has is printable and has that code. For any other code it gives back the blank.
 //
 // There are two kinds: glyphs, which are the same when they are equal, and days, whose notes do not count.
+#![tactic(auto)]
+
 mod day;
 mod glyph;
 mod printing;

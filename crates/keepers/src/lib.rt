@@ -2,6 +2,7 @@
 // of at most 65,535 codes, and says how many there are, which one stands at a place, and how far the
 // codes agree from two places on or just before them. A loose strip keeps the caller's own codes; a
 // window and a reversed layer stand on any keeper, and a shared reference to a keeper is one.
+#![tactic(auto)]
 
 mod loose;
 mod reversed;

@@ -1,10 +1,10 @@
 -- The overlaps of lengths from d to 2d − 1 are a progression, fixed by the greatest two. Assumes nothing.
-use Rattle.std.proofs.Common.{◌≡◌, ℕ, zero, suc, ◌+◌, ◌-◌, ◌*◌, ◌/◌, ◌%◌, ◌<◌, ◌≤◌, Bool, true, false, ◌⊎◌, List, length, Some, None, Option, sym, refl, ap, ◌∙◌, subst, inl, inr, arith}
+use Rattle.std.proofs.Common.{◌≡◌, ℕ, ◌+◌, ◌-◌, ◌*◌, ◌/◌, ◌<◌, ◌≤◌, true, List, length, Some, None, Option, sym, ap, ◌∙◌, subst, inl, inr, arith}
 use Rattle.std.proofs.lemmas.Nat.{div-add-mod'}
-use Rattle.std.proofs.lemmas.Bool.{both_ways, cases_lt, cases_eq}
+use Rattle.std.proofs.lemmas.Bool.{both_ways, cases_lt}
 use Rattle.periodicity.specs.declared.Progression.{Progression}
 use Rattle.periodicity.specs.Overlaps.{is_overlap}
-use Rattle.periodicity.specs.Progressions.{Proper, triple}
+use Rattle.periodicity.specs.Progressions.{triple}
 use Rattle.periodicity.specs.Ranges.{NoneFrom, GreatestFrom, Stepwise, Tells}
 use Rattle.periodicity.proofs.Ranges.{multiple_within, counted_within, greatest_in, tells_one}
 use Rattle.periodicity.proofs.Borders.{Fit, shorter_divides, multiple_fits}

@@ -1,10 +1,10 @@
 -- The places of a pattern in a field shorter than twice the pattern are a progression, fixed by the
 -- first two. Assumes nothing.
-use Rattle.std.proofs.Common.{◌≡◌, ℕ, zero, suc, ◌+◌, ◌-◌, ◌*◌, ◌/◌, ◌%◌, ◌<◌, ◌≤◌, min, Bool, true, false, ◌⊎◌, List, length, get_or, drop, Some, sym, refl, ap, ◌∙◌, subst, inl, inr, arith, length-drop, get_or-drop}
+use Rattle.std.proofs.Common.{◌≡◌, ℕ, zero, suc, ◌+◌, ◌-◌, ◌*◌, ◌/◌, ◌<◌, ◌≤◌, min, true, List, length, drop, Some, sym, ◌∙◌, subst, inl, inr, arith, length-drop, get_or-drop}
 use Rattle.std.proofs.lemmas.Nat.{div-add-mod'}
 use Rattle.std.proofs.lemmas.Bool.{both_ways, cases_lt, cases_eq}
 use Rattle.periodicity.specs.declared.Fragment.{Fragment}
-use Rattle.periodicity.specs.Agreement.{Agree, Greatest}
+use Rattle.periodicity.specs.Agreement.{Greatest}
 use Rattle.periodicity.specs.Fragments.{cut}
 use Rattle.periodicity.specs.Places.{is_place}
 use Rattle.periodicity.specs.Progressions.{Proper, triple}

@@ -1,15 +1,14 @@
 -- The laws of periodicity. Assumes nothing.
-use Rattle.std.proofs.Common.{◌≡◌, ℕ, ◌+◌, ◌-◌, ◌*◌, ◌/◌, ◌%◌, ◌<◌, ◌≤◌, min, Bool, true, ◌⊎◌, List, length, drop, Some, None, filter, Option, sym, refl, subst, inl, inr, arith}
+use Rattle.std.proofs.Common.{◌≡◌, ℕ, ◌+◌, ◌-◌, ◌*◌, ◌/◌, ◌%◌, ◌<◌, ◌≤◌, min, Bool, List, length, drop, Some, None, filter, Option, sym, refl, subst, inl, inr, arith}
 use Rattle.std.proofs.lemmas.Nat.{mod_below}
 use Rattle.std.proofs.lemmas.Bool.{cases_eq, cases_lt, leb-true}
 use Rattle.std.specs.List.{range_with_len}
 use Rattle.periodicity.specs.declared.Fragment.{Fragment}
 use Rattle.periodicity.specs.declared.Progression.{Progression}
 use Rattle.periodicity.specs.Agreement.{common}
-use Rattle.periodicity.specs.Fragments.{inside}
 use Rattle.periodicity.specs.Laws.{TestsHold, CommonGreatest, DifferenceRepeats, LeastDivides, OverlapsProgress, PlacesProgress, RecordsJoin}
-use Rattle.periodicity.specs.Overlaps.{is_overlap, overlaps_of}
-use Rattle.periodicity.specs.Places.{is_place, places_of}
+use Rattle.periodicity.specs.Overlaps.{is_overlap}
+use Rattle.periodicity.specs.Places.{is_place}
 use Rattle.periodicity.specs.Progressions.{told, triple, Names}
 use Rattle.periodicity.specs.Ranges.{LeastFrom, Tells}
 use Rattle.periodicity.proofs.Agreements.{common_greatest}

@@ -1,11 +1,10 @@
 -- The record of a range read off the overlaps of a fragment without its last code and without its first.
 -- Assumes nothing.
-use Rattle.std.proofs.Common.{◌≡◌, ℕ, ◌+◌, ◌-◌, ◌*◌, ◌^◌, ◌<◌, ◌≤◌, List, length, take, drop, Some, Option, sym, ap, ◌∙◌, subst, arith, take-take, drop-drop}
+use Rattle.std.proofs.Common.{◌≡◌, ℕ, ◌+◌, ◌-◌, ◌*◌, ◌^◌, ◌≤◌, List, length, take, drop, Some, Option, sym, ap, ◌∙◌, subst, arith, take-take, drop-drop}
 use Rattle.std.proofs.lemmas.List.{drop-take}
 use Rattle.std.specs.Option.{option_map}
-use Rattle.periodicity.specs.declared.Fragment.{Fragment}
 use Rattle.periodicity.specs.declared.Progression.{Progression}
-use Rattle.periodicity.specs.Fragments.{part, cut}
+use Rattle.periodicity.specs.Fragments.{part}
 use Rattle.periodicity.specs.Overlaps.{is_overlap}
 use Rattle.periodicity.specs.Periods.{periods_in}
 use Rattle.periodicity.specs.Progressions.{told, mirrored}

@@ -1,6 +1,6 @@
 -- The periods of a list by ranges of their borders: each range is a progression, and all of them joined
 -- are all periods. Assumes nothing.
-use Rattle.std.proofs.Common.{◌≡◌, ℕ, zero, suc, ◌+◌, ◌-◌, ◌*◌, ◌^◌, ◌<◌, ◌≤◌, min, Bool, true, false, cond, ◌&&◌, ltb, leb, ◌⊎◌, ◌↔◌, List, [], ◌∷◌, ◌++◌, length, get_or, take, drop, replicate, Some, None, filter, Option, sym, refl, ap, ◌∙◌, subst, inl, inr, arith, length-append, length-drop, length-take, get_or-drop, get_or-take}
+use Rattle.std.proofs.Common.{◌≡◌, ℕ, zero, suc, ◌+◌, ◌-◌, ◌*◌, ◌^◌, ◌<◌, ◌≤◌, Bool, true, false, cond, ◌&&◌, ltb, leb, ◌↔◌, List, [], ◌∷◌, ◌++◌, length, take, drop, replicate, Some, None, filter, Option, sym, refl, ap, ◌∙◌, subst, inl, inr, arith, length-append, length-drop, length-take, get_or-drop, get_or-take}
 use lib.ListN.{length-replicate}
 use Rattle.std.specs.List.{range_with_len, flat_map, ContainsAt as Has}
 use Rattle.std.specs.Option.{option_to_list, option_map}
@@ -11,9 +11,8 @@ use Rattle.std.proofs.lemmas.Bool.{both_ways, cases_Bool, and_parts, and_from, a
 use Rattle.periodicity.specs.declared.Progression.{Progression}
 use Rattle.periodicity.specs.Overlaps.{is_overlap}
 use Rattle.periodicity.specs.Periods.{Period, has_period, periods_of, border_in, periods_in, records_below, records_of, written_records, PeriodsNamed}
-use Rattle.periodicity.specs.Progressions.{triple, named, named_by, told, mirrored, Proper, Names}
-use Rattle.periodicity.specs.Ranges.{NoneFrom, Stepwise, Tells}
-use Rattle.periodicity.proofs.Borders.{Fit}
+use Rattle.periodicity.specs.Progressions.{triple, named, named_by, told, mirrored, Names}
+use Rattle.periodicity.specs.Ranges.{Stepwise, Tells}
 use Rattle.periodicity.proofs.Ranges.{kept_none, told_tells, names_tells, pass_from_has, has_from_pass}
 use Rattle.periodicity.proofs.OverlapsTold.{overlaps_tell}
 use Rattle.periodicity.proofs.Sameness.{at, room_from_overlap, fit_from_overlap, overlap_from_fit, period_from_test, test_from_period}

@@ -1,5 +1,6 @@
 // Periodicity of strips: fragments, progressions and the facts that make the answers about
 // repetition short. Theory stands here; nothing in this crate reads a strip.
+#![tactic(auto)]
 
 ghost use Rattle.periodicity.specs.Laws.{TestsHold, CommonGreatest, DifferenceRepeats, LeastDivides, OverlapsProgress, PlacesProgress, RecordsJoin};
 

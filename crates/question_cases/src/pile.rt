@@ -8,7 +8,7 @@ use ask::{Answer, Layers, Question, ask_through};
 use keepers::{Keeper, LooseStrip, Reversed, Window};
 
 fn ask_turned<K: Keeper>(keeper: &K, reversed: bool, above: Layers, question: Question) -> Answer
-    ensures { reply_of result ≡ reply_to question (seen_through above (turned reversed (codes keeper.now))) }
+    ensures { reply_of result ≡ reply_to question (seen_through above (turned reversed (K.codes keeper.now))) }
 {
     if reversed {
         ask_through(&Reversed { below: keeper }, above, question)

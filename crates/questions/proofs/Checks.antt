@@ -1,6 +1,6 @@
 -- From the tests that a question makes to the outcome and the law that it promises. Assumes nothing.
 use Rattle.std.proofs.Common.{◌≡◌, ℕ, None, Option, sym, ap, ◌∙◌}
-use Rattle.questions.specs.Outcomes.{Outcome, answered, checked}
+use Rattle.questions.specs.Outcomes.{answered, checked}
 
 -- no check applies
 pub answered_unchecked : {A : Type 0} (check : Option ℕ) (a b : A) → check ≡ None → a ≡ b → answered a ≡ checked check b

@@ -1,5 +1,5 @@
 -- Refusals by number, and what a question comes to. Assumes nothing.
-use Rattle.std.specs.Prelude.{◌≡◌, ℕ, ◌*◌, cond, ◌&&◌, List, ◌++◌, length, drop, Some, None, Ok, Err, codes as ascii, Option, Result, ◌==◌, nat_le, nat_lt}
+use Rattle.std.specs.Prelude.{ℕ, ◌*◌, cond, ◌&&◌, List, ◌++◌, drop, Some, None, Ok, Err, codes as ascii, Option, Result, ◌==◌, nat_le, nat_lt}
 use Rattle.periodicity.specs.declared.Fragment.{Fragment}
 use Rattle.periodicity.specs.declared.Progression.{Progression}
 use Rattle.periodicity.specs.Fragments.{cut, inside}

@@ -2,6 +2,7 @@
 // pattern in a field, the overlaps of two fragments, and the periods of a fragment. They are one text for
 // all keepers and for any pile of layers, since they know a keeper by its four answers alone. An answer is
 // absent, or a first number, a step and a count. Nothing is allocated.
+#![tactic(auto)]
 
 mod extension;
 mod overlap;

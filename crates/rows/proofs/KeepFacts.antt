@@ -1,19 +1,19 @@
 -- Rounds keep the strip: the strips of the numbers, joined, are the same before and after.
 -- Assumes nothing.
-use Rattle.std.proofs.Common.{◌≡◌, ℕ, zero, suc, ◌+◌, ◌-◌, ◌*◌, ◌<◌, ◌≤◌, Bool, true, false, List, [], ◌∷◌, ◌++◌, map, length, replicate, Some, None, sym, refl, ap, ◌∙◌, subst, arith}
+use Rattle.std.proofs.Common.{◌≡◌, ℕ, zero, suc, List, [], ◌∷◌, ◌++◌, map, replicate, Some, sym, refl, ap, ◌∙◌}
 use Rattle.std.proofs.lemmas.List.{append-nil}
 use Rattle.std.specs.List.{AllByRecursion as All}
 use Rattle.rows.specs.declared.Shape.{Shape}
 use Rattle.rows.specs.declared.Shape.TheVariants.{Leaf, Pair, Repeat}
 use Rattle.rows.specs.declared.Row.{Row}
-use Rattle.rows.specs.Filing.{find, row_of}
+use Rattle.rows.specs.Filing.{find}
 use Rattle.rows.specs.Rounds.{Block, one, new, blocks, leaf_block}
 use Rattle.rows.specs.Strips.{times, strip, expanded}
 use Rattle.rows.proofs.FilingFacts.{find_known}
-use Rattle.rows.proofs.NamingFacts.{name_of, Named}
+use Rattle.rows.proofs.NamingFacts.{Named}
 use Rattle.rows.proofs.Parsing.{symbols, spelled, InRound, spelled_blocks, block_kinds}
 use Rattle.rows.proofs.RoundFacts.{Comes, Known}
-use Rattle.rows.proofs.StripFacts.{Parts, shape_strip, strip_of_row, expanded_append, expanded_one}
+use Rattle.rows.proofs.StripFacts.{Parts, shape_strip, strip_of_row, expanded_append}
 
 expanded_times : (rows : List Row) (m p : ℕ) → expanded rows (replicate m p) ≡ times m (strip rows p)
 expanded_times rows zero p = refl

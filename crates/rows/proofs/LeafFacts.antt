@@ -1,13 +1,12 @@
 -- The leaf numbers of a number's strip are the leaves of its codes. Assumes nothing.
-use Rattle.std.proofs.Common.{◌≡◌, ℕ, zero, suc, ◌+◌, ◌-◌, ◌<◌, ◌≤◌, List, [], ◌∷◌, ◌++◌, map, length, get_or, take, drop, Some, None, sym, refl, ap, ◌∙◌, subst, arith, length-append}
+use Rattle.std.proofs.Common.{◌≡◌, ℕ, zero, suc, ◌+◌, ◌<◌, List, [], ◌∷◌, ◌++◌, map, length, get_or, take, drop, Some, sym, refl, ap, ◌∙◌, arith, length-append}
 use lib.ListN.{length-map}
-use Rattle.std.proofs.lemmas.List.{append-nil, append_assoc, get_or_append_left, get_or_at, map-append}
 use Rattle.rows.specs.declared.Shape.{Shape}
 use Rattle.rows.specs.declared.Shape.TheVariants.{Leaf, Pair, Repeat}
 use Rattle.rows.specs.declared.Row.{Row}
-use Rattle.rows.specs.Filing.{find, row_of, blank_row}
+use Rattle.rows.specs.Filing.{find, blank_row}
 use Rattle.rows.specs.Lawful.{Lawful}
-use Rattle.rows.specs.Rounds.{Filed, leaf_block, leaves}
+use Rattle.rows.specs.Rounds.{leaf_block, leaves}
 use Rattle.rows.specs.Strips.{times, known_as, written, strips_from, strip, leaf_written, leaf_strings_from, leaf_string}
 use Rattle.rows.proofs.LawfulFacts.{row_lawful}
 use Rattle.rows.proofs.NamingFacts.{Named, file_named, length_named}

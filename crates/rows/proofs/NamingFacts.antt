@@ -1,13 +1,12 @@
 -- Blocks named by rows that have them all: rounds that add nothing, and their replay on grown rows.
 -- Assumes nothing.
-use Rattle.std.proofs.Common.{◌≡◌, ℕ, zero, suc, ◌+◌, ◌-◌, ◌*◌, ◌<◌, ◌≤◌, Bool, true, false, cond, ◌&&◌, ltb, ◌⊎◌, List, [], ◌∷◌, ◌++◌, map, length, get_or, Some, None, Option, sym, refl, ap, ◌∙◌, subst, inl, inr, arith, length-append}
+use Rattle.std.proofs.Common.{◌≡◌, ℕ, zero, suc, ◌+◌, ltb, List, [], ◌∷◌, ◌++◌, map, length, Some, None, Option, sym, refl, ap, ◌∙◌, subst, inl, inr, arith}
 use Rattle.std.proofs.lemmas.List.{append-nil, append_assoc}
 use Rattle.std.proofs.lemmas.Bool.{cases_Bool, cond-true, cond-false}
-use Rattle.rows.specs.declared.Shape.{Shape}
 use Rattle.rows.specs.declared.Row.{Row}
-use Rattle.rows.specs.Filing.{find, Numbered, file}
+use Rattle.rows.specs.Filing.{find, file}
 use Rattle.rows.specs.Rounds.{Block, one, new, blocks, Filed, then, with_number, file_all, round, Settled, settled, rounds_from, leaf_block, leaves, enough_rounds, settle}
-use Rattle.rows.proofs.FilingFacts.{find_append, Grown, file_grows, file_found}
+use Rattle.rows.proofs.FilingFacts.{find_append, file_grows, file_found}
 
 -- the number of a block: itself, or that of the row of its shape
 abbrev pub name_of : List Row → Block → Option ℕ

@@ -1,5 +1,5 @@
 -- One strip has one number, and one number has one strip, on rows that only grow. Assumes nothing.
-use Rattle.std.proofs.Common.{◌≡◌, ℕ, zero, suc, ◌+◌, ◌<◌, ◌≤◌, ◌↔◌, List, [], ◌∷◌, ◌++◌, map, length, Some, None, Option, sym, refl, ap, ◌∙◌, subst, arith, length-append}
+use Rattle.std.proofs.Common.{◌≡◌, ℕ, ◌≤◌, ◌↔◌, List, [], ◌∷◌, ◌++◌, length, Some, sym, refl, ap, ◌∙◌, arith, length-append}
 use Rattle.std.proofs.lemmas.List.{append-nil}
 use Rattle.rows.specs.declared.Row.{Row}
 use Rattle.rows.specs.Lawful.{Lawful}
@@ -7,7 +7,7 @@ use Rattle.rows.specs.Rounds.{Settled, settle, number_left}
 use Rattle.rows.specs.Strips.{strip}
 use Rattle.rows.proofs.NamingFacts.{settle_replay}
 use Rattle.rows.proofs.RoundFacts.{Known}
-use Rattle.rows.proofs.SettleFacts.{Settles, settles, strip_settled}
+use Rattle.rows.proofs.SettleFacts.{settles, strip_settled}
 use Rattle.rows.proofs.StripFacts.{strip_append}
 
 -- a strip stands on rows under a number: it is the number's strip, and settles to it with nothing added

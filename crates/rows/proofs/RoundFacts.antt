@@ -1,19 +1,13 @@
 -- Rounds as a relation: what so many rounds make of a string on rows that have all blocks; fragments of
 -- strings, and how many rounds there can be. Assumes nothing.
-use Rattle.std.proofs.Common.{◌≡◌, ℕ, zero, suc, ◌+◌, ◌-◌, ◌*◌, ◌<◌, ◌≤◌, Bool, true, false, cond, ◌&&◌, ltb, ◌⊎◌, List, [], ◌∷◌, ◌++◌, map, length, get_or, replicate, Some, None, Option, sym, refl, ap, ◌∙◌, subst, inl, inr, arith, length-append}
-use lib.ListN.{length-map}
-use Rattle.std.proofs.ByRecursion.{All-append}
-use Rattle.std.proofs.lemmas.List.{append-nil, append_assoc}
-use Rattle.std.proofs.lemmas.Bool.{cases_Bool, cases_lt, cases_eq, cond-true, cond-false, lt-ltb, le-ltb, ltb-true, ltb-false}
+use Rattle.std.proofs.Common.{◌≡◌, ℕ, zero, suc, ◌+◌, ◌-◌, ◌*◌, ◌<◌, ◌≤◌, ltb, List, [], ◌∷◌, ◌++◌, length, Some, sym, refl, ap, ◌∙◌, subst, inl, inr, arith}
+use Rattle.std.proofs.lemmas.Bool.{cases_Bool, cases_lt, cases_eq, cond-true, cond-false, le-ltb}
 use Rattle.std.specs.List.{AllByRecursion as All}
-use Rattle.rows.specs.declared.Shape.{Shape}
-use Rattle.rows.specs.declared.Shape.TheVariants.{Leaf, Pair, Repeat}
 use Rattle.rows.specs.declared.Row.{Row}
-use Rattle.rows.specs.Filing.{find}
 use Rattle.rows.specs.Rounds.{Block, one, new, blocks, Filed, then, round, Settled, settled, rounds_from}
 use Rattle.rows.proofs.Ends.{blocks_shorter, blocks_unshortened, some_round_shortens}
 use Rattle.rows.proofs.FilingFacts.{find_known}
-use Rattle.rows.proofs.NamingFacts.{name_of, Named, named_append, length_named, named_ones, Parted, part_named, file_named, FiledAll, file_all_grows, then_some}
+use Rattle.rows.proofs.NamingFacts.{Named, named_append, length_named, named_ones, part_named, file_named, file_all_grows, then_some}
 use Rattle.rows.proofs.Parsing.{symbols, spelled, spelled_append, spelled_blocks, blocks_part}
 
 -- j rounds make t of s on these rows, and add nothing

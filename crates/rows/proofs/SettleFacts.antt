@@ -1,24 +1,24 @@
 -- Every row that settling adds keeps the shelf's properties, and a settled strip is the strip of its
 -- number. Assumes nothing.
-use Rattle.std.proofs.Common.{◌≡◌, ℕ, zero, suc, ◌+◌, ◌-◌, ◌*◌, ◌<◌, ◌≤◌, min, Bool, true, false, cond, ◌&&◌, eqb, ltb, leb, ◌⊎◌, List, [], ◌∷◌, ◌++◌, map, length, get_or, take, replicate, Some, None, Option, sym, refl, ap, ◌∙◌, subst, inl, inr, arith, length-append}
+use Rattle.std.proofs.Common.{◌≡◌, ℕ, zero, suc, ◌+◌, ◌*◌, ◌<◌, ◌≤◌, true, ◌&&◌, ltb, leb, ◌⊎◌, List, [], ◌∷◌, ◌++◌, map, length, take, replicate, Some, None, sym, refl, ap, ◌∙◌, subst, inl, inr, arith, length-append}
 use lib.ListN.{length-map}
 use Rattle.std.proofs.lemmas.List.{append-nil, append_assoc, length_push, take_all, length-replicate}
-use Rattle.std.proofs.lemmas.Bool.{cases_Bool, cases_eq, cases_lt, cond-true, cond-false, and_from, lt-ltb, le-leb, ltb-true, ltb-false, le-ltb}
+use Rattle.std.proofs.lemmas.Bool.{cases_Bool, cases_eq, cases_lt, cond-true, cond-false, and_from, lt-ltb, le-leb, ltb-true}
 use Rattle.std.specs.List.{AllByRecursion as All}
 use Rattle.rows.specs.declared.Shape.{Shape}
 use Rattle.rows.specs.declared.Shape.TheVariants.{Leaf, Pair, Repeat}
 use Rattle.rows.specs.declared.Row.{Row}
-use Rattle.rows.specs.Filing.{find, row_of, shape_length, row_made, Numbered, file}
+use Rattle.rows.specs.Filing.{find, row_of, shape_length, row_made, file}
 use Rattle.rows.specs.Lawful.{parts_below, lawful_row, Lawful}
-use Rattle.rows.specs.Rounds.{Block, one, new, blocks, Filed, then, with_number, file_all, round, Settled, settled, rounds_from, leaf_block, leaves, enough_rounds, settle, number_left}
+use Rattle.rows.specs.Rounds.{Block, one, new, blocks, Filed, then, with_number, file_all, round, Settled, settled, rounds_from, leaf_block, enough_rounds, settle, number_left}
 use Rattle.rows.specs.Strips.{times, strip, expanded}
-use Rattle.rows.proofs.FilingFacts.{find_added, Grown, file_grows}
+use Rattle.rows.proofs.FilingFacts.{find_added, file_grows}
 use Rattle.rows.proofs.KeepFacts.{shape_expanded, comes_keeps, leaves_keep, leaves_known, leaves_split}
-use Rattle.rows.proofs.LawfulFacts.{RowLawful, row_from_test, test_from_row, row_lawful_append, row_lawful, lawful_parts}
-use Rattle.rows.proofs.NamingFacts.{Named, named_append, length_named, file_named, FiledAll, file_all_grows, then_some, rounds_grow, settle_parts, settle_grows}
+use Rattle.rows.proofs.LawfulFacts.{RowLawful, test_from_row, row_lawful_append, row_lawful, lawful_parts}
+use Rattle.rows.proofs.NamingFacts.{Named, named_append, length_named, file_named, file_all_grows, then_some, rounds_grow, settle_parts, settle_grows}
 use Rattle.rows.proofs.Parsing.{symbols, spelled, InRound, spelled_append, spelled_blocks, blocks_part, block_kinds}
-use Rattle.rows.proofs.RoundFacts.{Comes, comes_append, comes_known, comes_settle, rounds_come, fragment_comes, Known, all_split, rounds_few, comes_shorter}
-use Rattle.rows.proofs.StripFacts.{Parts, shape_strip, strip_added, strip_append, written_strip, shape_strip_append, row_added, row_append, strip_of_row, strip_none, expanded_one}
+use Rattle.rows.proofs.RoundFacts.{Comes, comes_append, comes_known, comes_settle, rounds_come, fragment_comes, Known, rounds_few, comes_shorter}
+use Rattle.rows.proofs.StripFacts.{Parts, shape_strip, strip_added, written_strip, shape_strip_append, row_added, row_append, strip_none, expanded_one}
 
 -- a lawful row added after lawful rows
 lawful_one_more : (rows : List Row) (row : Row) → Lawful rows → length rows < 1024 → RowLawful (rows ++ (row ∷ [])) (length rows + 1) → Lawful (rows ++ (row ∷ []))

@@ -1,8 +1,7 @@
 -- What holds of the shapes of all rows still holds after settling, where it holds of the leaves of the
 -- codes and of all pairs and repeats. Assumes nothing.
-use Rattle.std.proofs.Common.{◌≡◌, ℕ, zero, suc, ◌+◌, true, false, ltb, ◌⊎◌, List, [], ◌∷◌, ◌++◌, map, length, Some, None, sym, ap, ◌∙◌, subst, inl, inr, arith}
+use Rattle.std.proofs.Common.{◌≡◌, ℕ, zero, suc, ◌+◌, ltb, List, [], ◌∷◌, map, length, Some, sym, ◌∙◌, subst, inl, inr}
 use Rattle.std.proofs.ByRecursion.{All-append}
-use Rattle.std.proofs.lemmas.List.{append-nil}
 use Rattle.std.proofs.lemmas.Bool.{cases_Bool, cond-true, cond-false}
 use Rattle.std.specs.List.{AllByRecursion as All}
 use Rattle.rows.specs.declared.Shape.{Shape}
@@ -10,7 +9,7 @@ use Rattle.rows.specs.declared.Shape.TheVariants.{Leaf, Pair, Repeat}
 use Rattle.rows.specs.declared.Row.{Row}
 use Rattle.rows.specs.Filing.{file}
 use Rattle.rows.specs.Rounds.{Block, one, new, blocks, Filed, then, with_number, file_all, round, Settled, settled, rounds_from, leaf_block, enough_rounds, settle}
-use Rattle.rows.proofs.FilingFacts.{Grown, file_grows}
+use Rattle.rows.proofs.FilingFacts.{file_grows}
 use Rattle.rows.proofs.NamingFacts.{then_some, settle_parts}
 use Rattle.rows.proofs.Parsing.{InRound, block_kinds}
 

@@ -1,6 +1,7 @@
 // Rows of a shelf: a run-length straight-line program in which each strip has one number. A row is a leaf
 // with a code, a pair of two smaller rows, or a repeat of one. Definitions and theory stand here: the
 // strips that rows write, the recompression rounds, and the properties of a shelf's rows.
+#![tactic(auto)]
 
 ghost use Rattle.rows.specs.Laws.{RoundsEnd, StripKept, RowsKept, Replays};
 

@@ -13,9 +13,9 @@ use rows::Shape;
 // Files the leaf of each printable cell, and writes their numbers; false where a row 1,025 would be needed,
 // which leaves rows behind that the caller takes off again.
 pub(crate) fn file_leaves<K: CellKind>(table: &mut Table, cells: &[K], numbers: &mut [u16]) -> bool
-    requires printable { first_unprintable coded cells.now ≡ None }
+    requires printable { first_unprintable K.coded cells.now ≡ None }
     requires room { length numbers.old ≡ length cells.now }
-    ensures { LeavesFiled (rows_in table.old) (printed coded cells.now) result (rows_in table.new) numbers.new }
+    ensures { LeavesFiled (rows_in table.old) (printed K.coded cells.now) result (rows_in table.new) numbers.new }
 {
     for (i, cell) in cells.iter().enumerate() {
         let Some(code) = cell.code() else {

@@ -14,10 +14,10 @@ use recompression::table::Table;
 // The number of a strip of printable cells; none where a row 1,025 would be needed, which leaves rows
 // behind that the caller takes off again.
 fn settle_cells<K: CellKind>(table: &mut Table, cells: &[K], numbers: &mut [u16]) -> Option<u16>
-    requires printable { first_unprintable coded cells.now ≡ None }
+    requires printable { first_unprintable K.coded cells.now ≡ None }
     requires short { length cells.now ≤ 65535 }
     requires room { length numbers.old ≡ length cells.now }
-    ensures { SettlesAs (rows_in table.old) (printed coded cells.now) result (rows_in table.new) }
+    ensures { SettlesAs (rows_in table.old) (printed K.coded cells.now) result (rows_in table.new) }
 {
     if !file_leaves(table, cells, numbers) {
         return None;
@@ -38,9 +38,9 @@ pub(crate) fn file_cells<K: CellKind>(
     cells: &[K],
     work: &mut [u16],
 ) -> Result<u16, Refusal>
-    requires printable { first_unprintable coded cells.now ≡ None }
+    requires printable { first_unprintable K.coded cells.now ≡ None }
     requires short { length cells.now ≤ 65535 }
-    ensures { ComesTo result (rows_in table.new) (filing (rows_in table.old) (printed coded cells.now) (length work.old)) }
+    ensures { ComesTo result (rows_in table.new) (filing (rows_in table.old) (printed K.coded cells.now) (length work.old)) }
 {
     if work.len() < cells.len() {
         return Err(Refusal::WorkAreaTooShort);

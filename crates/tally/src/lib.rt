@@ -1,4 +1,5 @@
 // Tallies: how many cases were run, and how many of them agree with what is expected.
+#![tactic(auto)]
 
 ghost use Rattle.std.specs.Prelude.{◌≡◌, Some, ◌==◌};
 ghost use Rattle.tally.specs.Tallies.{none_yet, counted, together, tally_text};

@@ -13,7 +13,7 @@ impl Shelf {
     // A new shelf of a kind: 1,024 blank rows, none in use.
     pub fn new<K: CellKind>() -> Shelf
         ensures rows { rows_on result ≡ [] }
-        ensures kind { result.kind ≡ tag }
+        ensures kind { result.kind ≡ K.tag }
     {
         Shelf {
             table: Table::new(),

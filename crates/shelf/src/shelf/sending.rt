@@ -15,7 +15,7 @@ use cells::CellKind;
 impl Shelf {
     // One request, as if it had been called with its places, at most those there are.
     fn perform<K: CellKind>(&mut self, sent: &Sent<K>, work: &mut [u16]) -> Answer
-        ensures outcome { ComesTo result (rows_on self.new) (turn (self.old.kind == tag) coded (rows_on self.old) (call_of sent.now.request) (min sent.now.places (length work.old))) }
+        ensures outcome { ComesTo result (rows_on self.new) (turn (self.old.kind == K.tag) K.coded (rows_on self.old) (call_of sent.now.request) (min sent.now.places (length work.old))) }
         ensures kind { self.new.kind ≡ self.old.kind }
     {
         let places = sent.places.min(work.len());
@@ -39,8 +39,8 @@ impl Shelf {
         work: &mut [u16],
     )
         requires { length answers.old ≡ length requests.now }
-        ensures rows { rows_on self.new ≡ rows_after (self.old.kind == tag) coded (rows_on self.old) (calls_sent (length work.old) requests.now) }
-        ensures answers { map told answers.new ≡ answers_of (self.old.kind == tag) coded (rows_on self.old) (calls_sent (length work.old) requests.now) }
+        ensures rows { rows_on self.new ≡ rows_after (self.old.kind == K.tag) K.coded (rows_on self.old) (calls_sent (length work.old) requests.now) }
+        ensures answers { map told answers.new ≡ answers_of (self.old.kind == K.tag) K.coded (rows_on self.old) (calls_sent (length work.old) requests.now) }
         ensures kind { self.new.kind ≡ self.old.kind }
     {
         for i in 0..requests.len() {
@@ -59,14 +59,14 @@ impl Shelf {
         work: &mut [u16],
     ) -> usize
         ensures performed { result ≡ min (length requests.now) (length answers.old) }
-        ensures rows { rows_on self.new ≡ rows_after (self.old.kind == tag) coded (rows_on self.old) (calls_sent (length work.old) (take result requests.now)) }
-        ensures answers { map told (take result answers.new) ≡ answers_of (self.old.kind == tag) coded (rows_on self.old) (calls_sent (length work.old) (take result requests.now)) }
+        ensures rows { rows_on self.new ≡ rows_after (self.old.kind == K.tag) K.coded (rows_on self.old) (calls_sent (length work.old) (take result requests.now)) }
+        ensures answers { map told (take result answers.new) ≡ answers_of (self.old.kind == K.tag) K.coded (rows_on self.old) (calls_sent (length work.old) (take result requests.now)) }
         ensures others { drop result answers.new ≡ drop result answers.old }
         ensures kind { self.new.kind ≡ self.old.kind }
         ensures cleared { work.new ≡ replicate (length work.old) 0 }
-        ensures kept { OfKind has (rows_on self.old) → OfKind has (rows_on self.new) }
-        ensures law { OfKind has (rows_on self.old) → OneNumber same (map told (take result answers.new)) (strips_of (self.old.kind == tag) coded given (rows_on self.old) (calls_sent (length work.old) (take result requests.now))) }
-        ensures history { AnyHistory coded given same (self.old.kind == tag) (rows_on self.old) (calls_sent (length work.old) (take result requests.now)) (map told (take result answers.new)) (rows_on self.new) }
+        ensures kept { OfKind K.has (rows_on self.old) → OfKind K.has (rows_on self.new) }
+        ensures law { OfKind K.has (rows_on self.old) → OneNumber K.same (map told (take result answers.new)) (strips_of (self.old.kind == K.tag) K.coded K.given (rows_on self.old) (calls_sent (length work.old) (take result requests.now))) }
+        ensures history { AnyHistory K.coded K.given K.same (self.old.kind == K.tag) (rows_on self.old) (calls_sent (length work.old) (take result requests.now)) (map told (take result answers.new)) (rows_on self.new) }
     {
         let work = WorkArea(work);
         let count = requests.len().min(answers.len());
@@ -83,14 +83,14 @@ impl Shelf {
         work: &mut [u16],
     )
         requires empty { rows_on self.old ≡ [] }
-        requires alike { self.old.kind ≡ tag }
-        ensures rows { rows_on self.new ≡ rows_after true coded [] (calls_sent (length work.old) (take (min (length requests.now) (length answers.old)) requests.now)) }
-        ensures answers { map told (take (min (length requests.now) (length answers.old)) answers.new) ≡ answers_of true coded [] (calls_sent (length work.old) (take (min (length requests.now) (length answers.old)) requests.now)) }
+        requires alike { self.old.kind ≡ K.tag }
+        ensures rows { rows_on self.new ≡ rows_after true K.coded [] (calls_sent (length work.old) (take (min (length requests.now) (length answers.old)) requests.now)) }
+        ensures answers { map told (take (min (length requests.now) (length answers.old)) answers.new) ≡ answers_of true K.coded [] (calls_sent (length work.old) (take (min (length requests.now) (length answers.old)) requests.now)) }
         ensures others { drop (min (length requests.now) (length answers.old)) answers.new ≡ drop (min (length requests.now) (length answers.old)) answers.old }
-        ensures kind { self.new.kind ≡ tag }
+        ensures kind { self.new.kind ≡ K.tag }
         ensures cleared { work.new ≡ replicate (length work.old) 0 }
-        ensures kept { OfKind has (rows_on self.new) }
-        ensures law { OneNumber same (map told (take (min (length requests.now) (length answers.old)) answers.new)) (strips_of true coded given [] (calls_sent (length work.old) (take (min (length requests.now) (length answers.old)) requests.now))) }
+        ensures kept { OfKind K.has (rows_on self.new) }
+        ensures law { OneNumber K.same (map told (take (min (length requests.now) (length answers.old)) answers.new)) (strips_of true K.coded K.given [] (calls_sent (length work.old) (take (min (length requests.now) (length answers.old)) requests.now))) }
     {
         self.send(requests, answers, work);
     }
@@ -101,13 +101,13 @@ impl Shelf {
         answers: &mut [Answer],
         work: &mut [u16],
     ) -> Shelf
-        ensures rows { rows_on result ≡ rows_after true coded [] (calls_sent (length work.old) (take (min (length requests.now) (length answers.old)) requests.now)) }
-        ensures answers { map told (take (min (length requests.now) (length answers.old)) answers.new) ≡ answers_of true coded [] (calls_sent (length work.old) (take (min (length requests.now) (length answers.old)) requests.now)) }
+        ensures rows { rows_on result ≡ rows_after true K.coded [] (calls_sent (length work.old) (take (min (length requests.now) (length answers.old)) requests.now)) }
+        ensures answers { map told (take (min (length requests.now) (length answers.old)) answers.new) ≡ answers_of true K.coded [] (calls_sent (length work.old) (take (min (length requests.now) (length answers.old)) requests.now)) }
         ensures others { drop (min (length requests.now) (length answers.old)) answers.new ≡ drop (min (length requests.now) (length answers.old)) answers.old }
-        ensures kind { result.kind ≡ tag }
+        ensures kind { result.kind ≡ K.tag }
         ensures cleared { work.new ≡ replicate (length work.old) 0 }
-        ensures kept { OfKind has (rows_on result) }
-        ensures law { OneNumber same (map told (take (min (length requests.now) (length answers.old)) answers.new)) (strips_of true coded given [] (calls_sent (length work.old) (take (min (length requests.now) (length answers.old)) requests.now))) }
+        ensures kept { OfKind K.has (rows_on result) }
+        ensures law { OneNumber K.same (map told (take (min (length requests.now) (length answers.old)) answers.new)) (strips_of true K.coded K.given [] (calls_sent (length work.old) (take (min (length requests.now) (length answers.old)) requests.now))) }
     {
         let mut shelf = Shelf::new::<K>();
         shelf.send_first(requests, answers, work);

@@ -16,7 +16,7 @@ use rows::MAX_CELLS;
 
 // Whether a kind of cell has this kind number.
 fn is_of_kind<K: CellKind>(kind: u8) -> bool
-    ensures { result ≡ (kind == tag) }
+    ensures { result ≡ (kind == K.tag) }
 {
     kind == K::kind_number()
 }
@@ -28,7 +28,7 @@ fn take_on<K: CellKind>(
     cells: &[K],
     work: &mut [u16],
 ) -> Result<u16, Refusal>
-    ensures { ComesTo result (rows_in table.new) (taken (kind == tag) coded (rows_in table.old) cells.now (length work.old)) }
+    ensures { ComesTo result (rows_in table.new) (taken (kind == K.tag) K.coded (rows_in table.old) cells.now (length work.old)) }
 {
     if !is_of_kind::<K>(kind) {
         return Err(Refusal::OtherKind);
@@ -46,11 +46,11 @@ impl Shelf {
     // The number that the cells come to by the rounds. What is written out for that number, now or later,
     // has the same cells.
     pub fn take<K: CellKind>(&mut self, cells: &[K], work: &mut [u16]) -> Result<u16, Refusal>
-        ensures outcome { ComesTo result (rows_on self.new) (taken (self.old.kind == tag) coded (rows_on self.old) cells.now (length work.old)) }
+        ensures outcome { ComesTo result (rows_on self.new) (taken (self.old.kind == K.tag) K.coded (rows_on self.old) cells.now (length work.old)) }
         ensures kind { self.new.kind ≡ self.old.kind }
         ensures cleared { work.new ≡ replicate (length work.old) 0 }
-        ensures kept { OfKind has (rows_on self.old) → OfKind has (rows_on self.new) }
-        ensures back { WrittenBack same given (rows_on self.new) cells.now result }
+        ensures kept { OfKind K.has (rows_on self.old) → OfKind K.has (rows_on self.new) }
+        ensures back { WrittenBack K.same K.given (rows_on self.new) cells.now result }
     {
         let work = WorkArea(work);
         take_on(&mut self.table, self.kind, cells, work.0)

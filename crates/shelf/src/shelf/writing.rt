@@ -14,7 +14,7 @@ impl Shelf {
     fn fill<K: CellKind + Drop>(&self, number: u16, start: usize, cells: &mut [K])
         requires known { number ≤ length (rows_on self.now) }
         requires inside { start + length cells.old ≤ length (strip (rows_on self.now) number) }
-        ensures { cells.new ≡ map given (part_of (rows_on self.now) number start (length cells.old)) }
+        ensures { cells.new ≡ map K.given (part_of (rows_on self.now) number start (length cells.old)) }
     {
         for i in 0..cells.len() {
             let Some(code) = self.table.code_at(number, start + i) else {
@@ -32,8 +32,8 @@ impl Shelf {
         start: usize,
         cells: &mut [K],
     ) -> Result<(), Refusal>
-        ensures outcome { refusal_of result ≡ writing_check (self.now.kind == tag) (rows_on self.now) number start (length cells.old) }
-        ensures written { cells.new ≡ cells_after given (writing_check (self.now.kind == tag) (rows_on self.now) number start (length cells.old)) (rows_on self.now) number start cells.old }
+        ensures outcome { refusal_of result ≡ writing_check (self.now.kind == K.tag) (rows_on self.now) number start (length cells.old) }
+        ensures written { cells.new ≡ cells_after K.given (writing_check (self.now.kind == K.tag) (rows_on self.now) number start (length cells.old)) (rows_on self.now) number start cells.old }
     {
         if self.kind != K::kind_number() {
             return Err(Refusal::OtherKind);

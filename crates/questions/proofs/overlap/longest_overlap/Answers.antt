@@ -1,7 +1,6 @@
-use Rattle.std.proofs.Common.{◌≡◌, ℕ, ◌+◌, ◌-◌, ◌≤◌, length, drop, subst, arith}
+use Rattle.std.proofs.Common.{◌-◌, arith}
 use Rattle.periodicity.specs.Fragments.{cut}
 use Rattle.periodicity.specs.Overlaps.{is_overlap}
-use Rattle.periodicity.specs.Ranges.{NoneFrom}
 use Rattle.periodicity.proofs.Extensions.{overlap_from_common, no_overlap_from_common}
 use Rattle.periodicity.proofs.Ranges.{none_before}
 use Rattle.questions.proofs.overlap.longest_overlap.Goals as goal

@@ -1,4 +1,4 @@
-use Rattle.std.proofs.Common.{◌≡◌, ℕ, ◌-◌, ◌++◌, take, drop, replicate, sym, ap, ◌∙◌, arith, take-append-drop}
+use Rattle.std.proofs.Common.{◌≡◌, ◌-◌, ◌++◌, take, drop, replicate, sym, ap, ◌∙◌, arith, take-append-drop}
 use Rattle.periodicity.specs.Progressions.{triple}
 use Rattle.questions.proofs.Writes.{cleared_more}
 use Rattle.questions.proofs.period.clear_unused.Goals as goal

@@ -1,4 +1,4 @@
-use Rattle.std.proofs.Common.{◌≡◌, ◌-◌, ◌≤◌, ◌++◌, take, drop, replicate}
+use Rattle.std.proofs.Common.{◌≡◌, ◌-◌, ◌++◌, take, drop, replicate}
 use Rattle.periodicity.specs.Progressions.{triple}
 use Rattle.questions.proofs.period.clear_unused.Given as goal
 

@@ -1,4 +1,4 @@
-use Rattle.std.proofs.Common.{◌≡◌, ℕ, ◌+◌, ◌≤◌, true, ◌++◌, length, take, drop, set, None, sym, refl, ap, ◌∙◌, subst, arith}
+use Rattle.std.proofs.Common.{◌≡◌, ◌+◌, ◌≤◌, true, length, take, drop, set, None, sym, refl, ap, ◌∙◌, subst, arith}
 use Rattle.std.proofs.lemmas.List.{take_at}
 use Rattle.std.proofs.lemmas.Bool.{leb-true}
 use Rattle.std.proofs.lemmas.Bool.Decides.{nat_tests}
@@ -7,7 +7,7 @@ use Rattle.periodicity.specs.Periods.{written_records, PeriodsNamed}
 use Rattle.periodicity.specs.Progressions.{triple}
 use Rattle.periodicity.proofs.RecordsTold.{written_name_all, written_named}
 use Rattle.periodicity.proofs.Sameness.{length_part}
-use Rattle.questions.specs.Outcomes.{checked, periods_check, after_periods}
+use Rattle.questions.specs.Outcomes.{periods_check, after_periods}
 use Rattle.questions.proofs.Checks.{answered_unchecked}
 use Rattle.questions.proofs.Writes.{all_written}
 use Rattle.questions.proofs.period.periods.Goals as goal

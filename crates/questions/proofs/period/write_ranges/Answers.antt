@@ -1,4 +1,4 @@
-use Rattle.std.proofs.Common.{◌≡◌, ◌+◌, ◌-◌, ◌<◌, length, sym, ◌∙◌, arith}
+use Rattle.std.proofs.Common.{arith}
 use Rattle.periodicity.specs.Fragments.{cut}
 use Rattle.questions.proofs.Writes.{range_written, range_passed, rest_written}
 use Rattle.periodicity.specs.Periods.{records_below}

@@ -1,4 +1,4 @@
-use Rattle.std.proofs.Common.{◌≡◌, ◌+◌, ◌≤◌, ◌++◌, length, take, drop}
+use Rattle.std.proofs.Common.{◌≡◌, ◌+◌, ◌≤◌, ◌++◌, take, drop}
 use Rattle.periodicity.specs.Fragments.{cut}
 use Rattle.periodicity.specs.Periods.{records_below}
 use Rattle.questions.proofs.period.write_ranges.Given as goal

@@ -1,4 +1,4 @@
-use Rattle.std.proofs.Common.{◌+◌, ◌≤◌, length, arith}
+use Rattle.std.proofs.Common.{arith}
 use Rattle.periodicity.specs.Places.{is_place}
 use Rattle.periodicity.proofs.Extensions.{place_from_common, no_place_from_common}
 use Rattle.periodicity.proofs.Ranges.{none_more}

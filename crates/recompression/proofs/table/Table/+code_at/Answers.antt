@@ -1,8 +1,7 @@
-use Rattle.std.proofs.Common.{◌≡◌, ◌-◌, ◌%◌, ◌<◌, ap, ◌∙◌, arith}
+use Rattle.std.proofs.Common.{◌-◌, ◌%◌, ap, ◌∙◌, arith}
 use Rattle.rows.specs.declared.Shape.TheVariants.{Leaf, Pair, Repeat}
 use Rattle.recompression.specs.Contents.{rows_in}
 use Rattle.recompression.specs.Codes.{code_in}
-use Rattle.recompression.specs.Expansions.{part_length}
 use Rattle.recompression.proofs.CodeFacts.{unknown_code, seen, part_falls, code_leaf, code_left, code_right, repeat_some, code_repeat}
 use Rattle.recompression.proofs.table.Table.+code_at.Goals as goal
 

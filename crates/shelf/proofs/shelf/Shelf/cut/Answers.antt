@@ -7,4 +7,4 @@ use Rattle.shelf.proofs.shelf.Shelf.cut.Goals as goal
 pub invariant_of-self : goal.invariant_of-self
 invariant_of-self c =
     let shelf = c.args.self.now in
-    (subst Lawful (sym c.cut_in_kind.ensures.outcome.1) (cut_lawful (rows_on shelf) _ _ _ _ shelf.lawful), tt)
+    record { lawful = subst Lawful (sym c.cut_in_kind.ensures.outcome.1) (cut_lawful (rows_on shelf) _ _ _ _ shelf.lawful) }

@@ -13,7 +13,7 @@ pub invariant_of-self : goal.invariant_of-self
 invariant_of-self g c =
     let K = g.K.CellKind in
     let shelf = c.args.self.now in
-    (subst Lawful (sym c.take_on.ensures.1) (taken_lawful K.coded (rows_on shelf) c.args.cells.now (length c.args.work.now) shelf.lawful (eqb shelf.kind K.tag)), tt)
+    record { lawful = subst Lawful (sym c.take_on.ensures.1) (taken_lawful K.coded (rows_on shelf) c.args.cells.now (length c.args.work.now) shelf.lawful (eqb shelf.kind K.tag)) }
 
 pub returns : goal.returns
 returns g c =
