@@ -5,6 +5,7 @@ mod fault;
 use ask::transcript;
 use fault::Fault;
 use std::io::{Read, Write};
+use std::process::ExitCode;
 
 fn run(rt: &HostRuntime) -> Result<(), Fault> {
     let heap = rt.alloc();
@@ -19,10 +20,12 @@ fn run(rt: &HostRuntime) -> Result<(), Fault> {
     }
 }
 
-fn main(rt: HostRuntime) -> Result<(), Fault> {
-    let result = run(&rt);
-    if let Err(fault) = &result {
-        let _ = eprintln!(rt; "strip_ask: {fault}");
+fn main(rt: HostRuntime) -> ExitCode {
+    match run(&rt) {
+        Ok(()) => ExitCode::SUCCESS,
+        Err(fault) => {
+            let _ = eprintln!(rt; "strip_ask: {fault}");
+            ExitCode::FAILURE
+        }
     }
-    result
 }

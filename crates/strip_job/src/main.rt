@@ -3,6 +3,7 @@
 use failures::Failure;
 use job::JobError;
 use std::io::{Read, Write};
+use std::process::ExitCode;
 
 // One byte more than a job may have: it tells that the job is too long, and what follows is of no use.
 const MOST_READ: u64 = 32_769;
@@ -23,10 +24,12 @@ fn run(rt: &HostRuntime) -> Result<(), Failure> {
     }
 }
 
-fn main(rt: HostRuntime) -> Result<(), Failure> {
-    let result = run(&rt);
-    if let Err(failure) = &result {
-        let _ = eprintln!(rt; "strip_job: {failure}");
+fn main(rt: HostRuntime) -> ExitCode {
+    match run(&rt) {
+        Ok(()) => ExitCode::SUCCESS,
+        Err(failure) => {
+            let _ = eprintln!(rt; "strip_job: {failure}");
+            ExitCode::FAILURE
+        }
     }
-    result
 }

@@ -3,4 +3,4 @@ use Rattle.shelf_strip.proofs.LengthFacts.{short_strip}
 use Rattle.shelf_strip.proofs.strip.ShelfStrip.new.Goals as goal
 
 pub invariant_of-result : goal.invariant_of-result
-invariant_of-result c = (short_strip _ c.args.shelf.now.lawful _, tt)
+invariant_of-result c = record { few = short_strip _ c.args.shelf.now.lawful _ }
