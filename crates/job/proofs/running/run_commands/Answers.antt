@@ -33,8 +33,8 @@ split_at-requires c =
 pub loop-rest-preserved : goal.loop-rest-preserved
 loop-rest-preserved c =
     let some : 0 < length c.loop-rest.rest.now = search rules in
-    let size_is : length c.split_at.result.0.now ≡ size_of c.in-Some.command = c.split_at.ensures.front-len ∙ c.size.ensures in (
-      omega (arith, c.split_at.ensures.back_len, c.split_at.ensures.front-len, c.loop-rest.invariant.0),
+    let size_is : length c.split_at.result.0.now ≡ size_of c.in-Some.command = c.split_at.ensures.front_len ∙ c.size.ensures in (
+      omega (arith, c.split_at.ensures.back_len, c.split_at.ensures.front_len, c.loop-rest.invariant.0),
       turn_more (string_bytes c.loop-rest.text) (string_bytes c.print-in-loop-rest.new.text) (standing_of c.loop-rest.desk) (standing_of c.perform.new.self) c.loop-rest.place (length c.split_at.result.0.now)
           c.loop-rest.rest.now c.split_at.result.1.now (flat_map line_bytes (told_from nothing_yet (entries c.args.job.now))) c.in-Some.command (told_lines c.in_ok-line.line) some c.in-Some.ensures c.in_ok-line.ensures.done
           c.in_ok-print-2.ensures size_is (c.split_at.ensures.back ∙ ap (λ n. drop n c.loop-rest.rest.now) c.size.ensures) c.loop-rest.invariant.1,
