@@ -1,9 +1,9 @@
 -- Lines are answered one after the other. Assumes nothing.
-use Rattle.std.proofs.Common.{◌≡◌, ℕ, ◌+◌, List, [], ◌∷◌, ◌++◌, vec_items, Vec, sym, refl, ap, ◌∙◌, append_assoc}
+use Rattle.std.proofs.Common.{◌≡◌, ℕ, ◌+◌, List, ◌∷◌, ◌++◌, Vec, sym, refl, ap, ◌∙◌, append_assoc}
 use Rattle.std.specs.declared.alloc.Global.{Global}
 use Rattle.ask.specs.declared.line.Line.{Line}
 use Rattle.ask.specs.declared.line.Line.TheVariants.{Nothing, Strip, Question, NotUnderstood}
-use Rattle.ask.specs.Lines.{Saying, saying_of, said_by}
+use Rattle.ask.specs.Lines.{saying_of, said_by}
 use Rattle.ask.specs.Transcript.{printed_for, strip_after, transcript_from}
 use Rattle.ask.specs.Words.{lines_of}
 

@@ -1,5 +1,6 @@
 // Questions about a strip, asked in lines of text. A line sets the strip, or asks about it as it is seen
 // through a window, reversed or as it stands; each question is answered by a line.
+#![tactic(auto)]
 
 mod answer;
 mod line;

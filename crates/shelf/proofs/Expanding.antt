@@ -1,11 +1,11 @@
 -- Leaf numbers written into a work area, and the strips that they are the leaves of. Assumes nothing.
-use Rattle.std.proofs.Common.{◌≡◌, ℕ, ◌+◌, ◌-◌, ◌<◌, ◌≤◌, min, Bool, true, false, List, [], ◌∷◌, ◌++◌, map, length, take, drop, Some, sym, refl, ap, ◌∙◌, subst, arith, length-append, length-drop, length-take}
+use Rattle.std.proofs.Common.{◌≡◌, ℕ, ◌+◌, ◌-◌, ◌≤◌, Bool, true, false, List, ◌++◌, length, take, drop, sym, ap, ◌∙◌, arith, length-drop}
 use Rattle.std.proofs.lemmas.List.{append-nil, take_at, take_all, drop_all}
 use Rattle.book.specs.Calls.{part_of}
 use Rattle.rows.specs.declared.Row.{Row}
 use Rattle.rows.specs.Filing.{row_of}
 use Rattle.rows.specs.Lawful.{Lawful}
-use Rattle.rows.specs.Rounds.{leaves, settle}
+use Rattle.rows.specs.Rounds.{settle}
 use Rattle.rows.specs.Strips.{strip, leaf_string}
 use Rattle.rows.proofs.LeafFacts.{LeavesOf, leaves_append, leaves_take, leaves_drop, length_leaves, leaf_string_names, leaves_found}
 use Rattle.recompression.specs.Expansions.{written_out, Expanded}

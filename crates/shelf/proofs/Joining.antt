@@ -1,12 +1,11 @@
 -- Joins and cuts, check by check, from what the table keeps. Assumes nothing.
-use Rattle.std.proofs.Common.{◌≡◌, ℕ, ◌+◌, ◌-◌, ◌<◌, ◌≤◌, min, ◌⊎◌, List, ◌++◌, length, take, drop, Ok, Err, Result, sym, refl, ap, ◌∙◌, subst, inl, inr, arith, length-append, length-drop, length-take}
-use Rattle.book.specs.Calls.{Turn, settling, filing, joined_up, part_of, cut_out}
+use Rattle.std.proofs.Common.{◌≡◌, ℕ, ◌+◌, ◌<◌, ◌≤◌, ◌⊎◌, List, ◌++◌, length, Err, Result, ap, ◌∙◌, arith, length-append, length-drop, length-take}
+use Rattle.book.specs.Calls.{settling, filing, joined_up, part_of, cut_out}
 use Rattle.book.proofs.CallFacts.{joined_unknown, joined_long, joined_filed, cut_unknown, cut_leaves, cut_filed}
 use Rattle.rows.specs.declared.Row.{Row}
 use Rattle.rows.specs.Filing.{row_of}
 use Rattle.rows.specs.Lawful.{Lawful}
-use Rattle.rows.specs.Rounds.{settle}
-use Rattle.rows.specs.Strips.{strip, leaf_string}
+use Rattle.rows.specs.Strips.{strip}
 use Rattle.recompression.specs.Expansions.{written_out}
 use Rattle.recompression.specs.Settling.{all_rounds}
 use Rattle.shelf.specs.declared.refusal.Refusal.{Refusal}

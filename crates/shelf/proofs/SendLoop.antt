@@ -1,7 +1,7 @@
 -- Requests performed one after the other. Assumes nothing.
-use Rattle.std.proofs.Common.{◌≡◌, ℕ, ◌+◌, ◌<◌, ◌≤◌, min, Bool, eqb, List, [], ◌∷◌, ◌++◌, map, length, get_or, take, drop, set, Option, Result, sym, refl, ap, ◌∙◌, subst, arith}
+use Rattle.std.proofs.Common.{◌≡◌, ℕ, ◌+◌, ◌<◌, ◌≤◌, min, eqb, List, [], ◌∷◌, ◌++◌, map, length, get_or, take, set, Option, Result, sym, ap, ◌∙◌}
 use Rattle.std.proofs.lemmas.List.{take_more, take_more_set, take_all, map-append}
-use Rattle.book.specs.Calls.{Answer, Turn, turn}
+use Rattle.book.specs.Calls.{turn}
 use Rattle.book.specs.Runs.{rows_after, answers_of}
 use Rattle.book.proofs.RunFacts.{rows_push, answers_push}
 use Rattle.rows.specs.declared.Row.{Row}

@@ -1,25 +1,25 @@
 -- From the rounds on leaf numbers to the strip that settles, and to what the book tells of it.
 -- Assumes nothing.
-use Rattle.std.proofs.Common.{◌≡◌, ℕ, ◌<◌, ◌≤◌, true, false, cond, ltb, List, [], ◌∷◌, ◌++◌, map, length, take, Some, None, Ok, Err, Option, Result, sym, refl, ap, ◌∙◌, subst, arith}
+use Rattle.std.proofs.Common.{◌≡◌, ℕ, ◌<◌, ◌≤◌, ltb, List, ◌++◌, map, length, take, Some, None, Ok, Err, Option, Result, sym, refl, ap, ◌∙◌, subst, arith}
 use lib.ListN.{length-map}
 use Rattle.std.proofs.lemmas.List.{take-append-le, take_all}
 use Rattle.std.proofs.lemmas.Bool.{cond-true, cond-false, lt-ltb, le-ltb}
 use Rattle.std.specs.Result.{result_ok}
 use Rattle.std.specs.List.{AllZip}
-use Rattle.book.specs.Calls.{Answer, answered, refused, Turn, refusing, settling, filing}
+use Rattle.book.specs.Calls.{answered, refused, Turn, refusing, settling, filing}
 use Rattle.book.proofs.CallFacts.{Stays}
 use Rattle.rows.specs.declared.Row.{Row}
-use Rattle.rows.specs.Rounds.{Filed, Settled, then, rounds_from, leaf_block, leaves, enough_rounds, settle, number_left}
+use Rattle.rows.specs.Rounds.{Settled, then, rounds_from, leaf_block, leaves, enough_rounds, settle}
 use Rattle.rows.specs.Strips.{strip}
 use Rattle.rows.proofs.NamingFacts.{length_named, file_all_grows}
 use Rattle.recompression.specs.declared.table.settle.Unsettled.{Unsettled}
-use Rattle.recompression.specs.declared.table.settle.Unsettled.TheVariants.{TooLong, Full}
+use Rattle.recompression.specs.declared.table.settle.Unsettled.TheVariants.{TooLong}
 use Rattle.recompression.specs.Settling as recompression
 use Rattle.recompression.specs.Settling.{all_rounds, settling_by}
 use Rattle.shelf.specs.declared.refusal.Refusal.{Refusal}
 use Rattle.shelf.specs.declared.refusal.Refusal.TheVariants.{WorkAreaTooShort, ShelfFull}
 use Rattle.shelf.specs.Leaves.{SettlesAs}
-use Rattle.shelf.specs.Refusals.{told, refusal_told, ComesTo, WrittenBack, StaysWritten}
+use Rattle.shelf.specs.Refusals.{refusal_told, ComesTo, WrittenBack, StaysWritten}
 
 -- the rounds on the leaves of a strip are what the strip settles to
 pub settle_from_leaves : (old rows : List Row) (codes numbers : List ℕ) → leaves old codes ≡ Some (record { numbers = numbers; rows = rows }) → settle old codes ≡ all_rounds rows numbers

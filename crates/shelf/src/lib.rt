@@ -1,5 +1,6 @@
 // The shelf: strips of cells filed under numbers, so that one strip has one number and one number has one
 // strip, over any history of takes, joins, cuts and refusals.
+#![tactic(auto)]
 
 mod leaves;
 pub mod refusal;

@@ -1,6 +1,6 @@
 -- One line more.
-use Rattle.std.proofs.Common.{◌≡◌, ◌+◌, ◌++◌, vec_items, string_bytes, sym, ap, ◌∙◌, arith, rules}
-use Rattle.ask.specs.Lines.{saying_of, said_by}
+use Rattle.std.proofs.Common.{◌+◌, ◌++◌, vec_items, string_bytes, sym, ap, ◌∙◌, arith}
+use Rattle.ask.specs.Lines.{said_by}
 use Rattle.ask.specs.Transcript.{printed_for, strip_after, transcript_from, transcript_of}
 use Rattle.ask.specs.Words.{lines_of}
 use Rattle.ask.proofs.Turns.{strip_stays, line_more}

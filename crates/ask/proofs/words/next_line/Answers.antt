@@ -1,5 +1,5 @@
 -- The first line of a text, the last one, or that there is none.
-use Rattle.std.proofs.Common.{sym, rules, true-eqb, false-eqb}
+use Rattle.std.proofs.Common.{rules}
 use Rattle.ask.proofs.Pieces.{no_line, first_line, last_line}
 use Rattle.ask.proofs.words.next_line.Goals as goal
 

@@ -1,4 +1,4 @@
-use Rattle.std.proofs.Common.{◌≡◌, length, arith}
+use Rattle.std.proofs.Common.{arith}
 use Rattle.book.specs.Calls.{printed}
 use Rattle.recompression.specs.Contents.{rows_in}
 use Rattle.shelf.proofs.LeafLoop.{code_read, code_missing, one_filed, none_left, rows_kept, all_filed, length_printed}

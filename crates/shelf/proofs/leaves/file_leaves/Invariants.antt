@@ -1,4 +1,3 @@
-use Rattle.std.proofs.Common.{◌≡◌, length}
 use Rattle.book.specs.Calls.{printed}
 use Rattle.recompression.specs.Contents.{rows_in}
 use Rattle.shelf.proofs.LeafLoop.{Going}

@@ -1,4 +1,4 @@
-use Rattle.std.proofs.Common.{◌≡◌, length, take, refl, ap, ◌∙◌, arith}
+use Rattle.std.proofs.Common.{length, take, refl, ap, ◌∙◌, arith}
 use Rattle.book.specs.Calls.{printed}
 use Rattle.recompression.specs.Contents.{rows_in}
 use Rattle.shelf.proofs.LeafLoop.{length_printed}

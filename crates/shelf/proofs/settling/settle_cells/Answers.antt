@@ -1,4 +1,4 @@
-use Rattle.std.proofs.Common.{◌≡◌, sym, subst, arith}
+use Rattle.std.proofs.Common.{sym, subst, arith}
 use Rattle.book.specs.Calls.{printed}
 use Rattle.recompression.specs.Contents.{rows_in}
 use Rattle.shelf.specs.Leaves.{SettlesAs}

@@ -1,5 +1,5 @@
 -- A stretch goes on, ends at another byte, or at the end.
-use Rattle.std.proofs.Common.{arith, rules}
+use Rattle.std.proofs.Common.{rules}
 use Rattle.std.proofs.lemmas.List.Sums.{prefix_len-drop_yes, prefix_len-drop_no, prefix_len-drop_all}
 use Rattle.ask.specs.Words.{in_stretch}
 use Rattle.ask.proofs.words.Stretch.length_in.Goals as goal

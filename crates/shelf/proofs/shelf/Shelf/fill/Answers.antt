@@ -1,4 +1,4 @@
-use Rattle.std.proofs.Common.{◌≡◌, ℕ, ◌+◌, ◌<◌, ◌≤◌, length, get_or, set, Some, None, sym, ap, ◌∙◌, arith}
+use Rattle.std.proofs.Common.{◌≡◌, ℕ, ◌+◌, get_or, set, ap, ◌∙◌, arith}
 use Rattle.book.proofs.RunFacts.{strip_short}
 use Rattle.rows.specs.Strips.{strip}
 use Rattle.shelf.specs.Contents.{rows_on}

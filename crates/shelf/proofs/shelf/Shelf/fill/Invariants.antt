@@ -1,4 +1,4 @@
-use Rattle.std.proofs.Common.{◌≡◌, ◌++◌, map, length, drop}
+use Rattle.std.proofs.Common.{◌≡◌, ◌++◌, map, drop}
 use Rattle.book.specs.Calls.{part_of}
 use Rattle.shelf.specs.Contents.{rows_on}
 use Rattle.shelf.proofs.shelf.Shelf.fill.Given as goal

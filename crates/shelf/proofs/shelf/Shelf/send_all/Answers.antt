@@ -1,4 +1,4 @@
-use Rattle.std.proofs.Common.{◌≡◌, length, ◌∙◌, arith}
+use Rattle.std.proofs.Common.{length, ◌∙◌, arith}
 use Rattle.shelf.specs.Contents.{rows_on}
 use Rattle.shelf.proofs.SendLoop.{performed_more, performed_all}
 use Rattle.shelf.proofs.shelf.Shelf.send_all.Goals as goal

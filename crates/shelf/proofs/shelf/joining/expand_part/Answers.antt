@@ -1,4 +1,4 @@
-use Rattle.std.proofs.Common.{◌≡◌, ap, ◌∙◌, arith}
+use Rattle.std.proofs.Common.{ap, ◌∙◌, arith}
 use Rattle.recompression.specs.Contents.{rows_in}
 use Rattle.recompression.specs.Expansions.{written_out}
 use Rattle.shelf.proofs.Expanding.{expanded_all}

@@ -1,4 +1,4 @@
-use Rattle.std.proofs.Common.{◌≡◌, ◌<◌, ◌⊎◌, length, refl, ◌∙◌, inl, inr, arith}
+use Rattle.std.proofs.Common.{◌<◌, ◌⊎◌, length, refl, inl, inr, arith}
 use Rattle.recompression.specs.Contents.{rows_in}
 use Rattle.shelf.proofs.Joining.{join_unknown, join_too_long, join_small_work, join_settled}
 use Rattle.shelf.proofs.shelf.joining.join_on.Goals as goal

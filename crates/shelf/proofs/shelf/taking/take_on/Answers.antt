@@ -1,4 +1,4 @@
-use Rattle.std.proofs.Common.{◌≡◌, true, false, eqb, length, Some, None, sym, refl, ◌∙◌, arith}
+use Rattle.std.proofs.Common.{◌≡◌, true, false, eqb, length, Some, None, sym, refl, arith}
 use Rattle.book.specs.Calls.{taken, printed, filing}
 use Rattle.book.proofs.CallFacts.{taken_other_kind, taken_long, taken_short}
 use Rattle.recompression.specs.Contents.{rows_in}
