@@ -1,7 +1,7 @@
 -- What a job does: the lines that it prints and the calls that it makes, by the plain book. Assumes nothing.
 use Rattle.std.specs.Prelude.{◌≡◌, ℕ, Bool, true, cond, List, [], ◌∷◌, ◌++◌, length, Option, nat_le, nat_lt}
 use Rattle.cells.specs.declared.glyph.Glyph.{Glyph}
-use Rattle.cells.specs.Glyphs.{glyph_of, glyph_code, glyph_given}
+use Rattle.cells.specs.Glyphs.{glyph_of, glyph_code}
 use Rattle.rows.specs.declared.Row.{Row}
 use Rattle.rows.specs.Strips.{strip}
 use Rattle.book.specs.Calls as book

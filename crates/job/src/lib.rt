@@ -1,5 +1,6 @@
 // Jobs: commands in bytes that fill a tray, file its glyphs on an empty glyph shelf, join and cut strips and ask
 // for places; and the lines that they print.
+#![tactic(auto)]
 
 pub mod command;
 mod desk;

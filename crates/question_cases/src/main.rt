@@ -1,4 +1,5 @@
 // Runs files of cases through the questions, and says how many answers are the expected ones.
+#![tactic(auto)]
 
 mod case;
 mod pile;

@@ -143,15 +143,15 @@ module _ (rows : List Row) where
       (named_ones rows u t (subst (λ bs. Named rows bs t) (blocks_unshortened k u long) named), long)
 
   -- the string after j rounds, from which i more are run
-  abbrev Goes_on : ℕ → ℕ → List ℕ → List ℕ → Type 0
-  Goes_on j zero u t = u ≡ t
-  Goes_on j (suc i) u t = (v : List ℕ) × Goes_on j i u v × Named rows (blocks (suc (j + i)) v) t
+  abbrev GoesOn : ℕ → ℕ → List ℕ → List ℕ → Type 0
+  GoesOn j zero u t = u ≡ t
+  GoesOn j (suc i) u t = (v : List ℕ) × GoesOn j i u v × Named rows (blocks (suc (j + i)) v) t
 
-  goes_shorter : (j i : ℕ) (u t : List ℕ) → Goes_on j i u t → length t ≤ length u
+  goes_shorter : (j i : ℕ) (u t : List ℕ) → GoesOn j i u t → length t ≤ length u
   goes_shorter j zero u t g = omega (arith, ap length g)
   goes_shorter j (suc i) u t g = omega (arith, goes_shorter j i u g.0 g.1, round_shorter rows (suc (j + i)) g.0 t g.2)
 
-  stays : (j i : ℕ) (u t : List ℕ) → Goes_on j i u t → length t ≡ length u → (t ≡ u) × ((h : ℕ) → h < i → length (blocks (suc j + h) u) ≡ length u)
+  stays : (j i : ℕ) (u t : List ℕ) → GoesOn j i u t → length t ≡ length u → (t ≡ u) × ((h : ℕ) → h < i → length (blocks (suc j + h) u) ≡ length u)
   stays j zero u t g same = (sym g, λ h below. absurd (omega arith))
   stays j (suc i) u t g same =
       let v = g.0 in
@@ -169,7 +169,7 @@ module _ (rows : List Row) where
       )
 
   -- the last i of j + i rounds
-  last_rounds : (j i : ℕ) (s t : List ℕ) → Comes rows (j + i) s t → (u : List ℕ) × Comes rows j s u × Goes_on j i u t
+  last_rounds : (j i : ℕ) (s t : List ℕ) → Comes rows (j + i) s t → (u : List ℕ) × Comes rows j s u × GoesOn j i u t
   last_rounds j zero s t c = let e : j + zero ≡ j = omega arith in (t, subst (λ k. Comes rows k s t) e c, refl)
   last_rounds j (suc i) s t c =
       let e : j + suc i ≡ suc (j + i) = omega arith in
@@ -178,7 +178,7 @@ module _ (rows : List Row) where
       (inner.0, inner.1, (c'.0, inner.2, c'.2))
 
   -- any 44 rounds shorten a string of two or more numbers
-  pub rounds_shorten : (j : ℕ) (u t : List ℕ) → length rows ≤ 1024 → Known rows u → 2 ≤ length u → Goes_on j 44 u t → length t < length u
+  pub rounds_shorten : (j : ℕ) (u t : List ℕ) → length rows ≤ 1024 → Known rows u → 2 ≤ length u → GoesOn j 44 u t → length t < length u
   rounds_shorten j [] t few known long g = absurd (omega arith)
   rounds_shorten j (x ∷ []) t few known long g = absurd (omega arith)
   rounds_shorten j (x ∷ (y ∷ u)) t few known long g =

@@ -23,11 +23,11 @@ calls_sent area requests = map (sent_with area) requests
 
 -- calls that go on with a history of calls on a new shelf of the kind: the rows are those of the book run on the
 -- whole history, and the law holds of all its answers, earlier and later ones
-pub record Goes_on {C : Type 0} (coded : C → Option ℕ) (given : ℕ → C) (same : C → C → Type 0) (past calls : List (book.Sent C)) (answers : List Answer) (rows : List Row) : Type 0 where
+pub record GoesOn {C : Type 0} (coded : C → Option ℕ) (given : ℕ → C) (same : C → C → Type 0) (past calls : List (book.Sent C)) (answers : List Answer) (rows : List Row) : Type 0 where
   pub rows_told : rows ≡ book.rows_after true coded [] (past ++ calls)
   pub law : OneNumber same (book.answers_of true coded [] past ++ answers) (book.strips_of true coded given [] (past ++ calls))
 
 -- they do so whichever history it was that left the rows at entry on a shelf of the kind
 abbrev pub AnyHistory : {C : Type 0} → (C → Option ℕ) → (ℕ → C) → (C → C → Type 0) → Bool → List Row → List (book.Sent C) → List Answer → List Row → Type 0
 AnyHistory {C} coded given same same_kind before calls answers after =
-    (past : List (book.Sent C)) → same_kind ≡ true → before ≡ book.rows_after true coded [] past → Goes_on coded given same past calls answers after
+    (past : List (book.Sent C)) → same_kind ≡ true → before ≡ book.rows_after true coded [] past → GoesOn coded given same past calls answers after

@@ -1,4 +1,5 @@
 // Answers questions about a strip: reads lines from standard input, and prints a line for each question.
+#![tactic(auto)]
 
 mod fault;
 

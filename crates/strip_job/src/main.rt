@@ -1,4 +1,5 @@
 // Runs a job: reads it from standard input, and prints what its commands answer.
+#![tactic(auto)]
 
 use failures::Failure;
 use job::JobError;

@@ -1,5 +1,5 @@
 -- Worked examples of jobs: the bytes that they print. Assumes nothing.
-use Rattle.std.specs.Prelude.{◌≡◌, List, [], ◌∷◌, codes as ascii}
+use Rattle.std.specs.Prelude.{◌≡◌, [], ◌∷◌, codes as ascii}
 use Rattle.job.specs.Lines.{printed_by}
 use Rattle.worked.specs.Examples.{Examples}
 
