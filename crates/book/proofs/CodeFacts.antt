@@ -2,7 +2,7 @@
 use Rattle.std.proofs.Common.{◌≡◌, ℕ, zero, suc, ◌<◌, Bool, true, cond, ◌↔◌, List, [], ◌∷◌, ◌++◌, map, length, get_or, take, drop, is_some, Some, None, Option, unwrap_or, sym, refl, ap, ◌∙◌, arith}
 use Rattle.std.proofs.ByRecursion.{All-append}
 use Rattle.std.specs.Option.{option_map}
-use Rattle.std.specs.List.{AllZip, AllByRecursion as All}
+use Rattle.std.specs.List.{AllZip, AllByRecursion}
 use Rattle.cells.specs.Printing.{first_unprintable}
 use Rattle.rows.specs.declared.Shape.{Shape}
 use Rattle.rows.specs.declared.Shape.TheVariants.{Leaf, Pair, Repeat}
@@ -26,7 +26,7 @@ CodesOf coded (x ∷ cells) (c ∷ codes) = (coded x ≡ Some c) × CodesOf code
 
 -- the codes of a list are codes that the kind has
 abbrev pub HasAll : (ℕ → Bool) → List ℕ → Type 0
-HasAll has codes = All (λ c. has c ≡ true) codes
+HasAll has codes = AllByRecursion (λ c. has c ≡ true) codes
 
 pub has_take : (has : ℕ → Bool) (k : ℕ) (codes : List ℕ) → HasAll has codes → HasAll has (take k codes)
 has_take has zero codes all = tt
@@ -44,7 +44,7 @@ has_times has (suc m) codes all = All-append (λ c. has c ≡ true) codes (times
 
 -- strips of rows of a kind have codes of the kind
 abbrev HasEach : (ℕ → Bool) → List (List ℕ) → Type 0
-HasEach has done = All (HasAll has) done
+HasEach has done = AllByRecursion (HasAll has) done
 
 known_has : (has : ℕ → Bool) (done : List (List ℕ)) (n : ℕ) → HasEach has done → HasAll has (known_as done n)
 known_has has done zero all = tt

@@ -1,6 +1,6 @@
 -- One strip has one number, one number has one strip. Assumes nothing.
 use Rattle.std.specs.Prelude.{◌≡◌, ℕ, Bool, true, ◌↔◌, List, [], slice_index_or}
-use Rattle.std.specs.List.{AllZip, AllByRecursion as All}
+use Rattle.std.specs.List.{AllZip, AllByRecursion}
 use Rattle.rows.specs.declared.Row.{Row}
 use Rattle.rows.specs.declared.Shape.{Shape}
 use Rattle.rows.specs.declared.Shape.TheVariants.{Leaf, Pair, Repeat}
@@ -13,7 +13,7 @@ leaf_of_kind has (Pair left right) = Unit {0}
 leaf_of_kind has (Repeat part count) = Unit {0}
 
 abbrev pub OfKind : (ℕ → Bool) → List Row → Type 0
-OfKind has rows = All (λ row. leaf_of_kind has row.shape) rows
+OfKind has rows = AllByRecursion (λ row. leaf_of_kind has row.shape) rows
 
 -- call i was answered by the number n
 abbrev pub Answered : List Answer → ℕ → ℕ → Type 0

@@ -1,6 +1,6 @@
 -- What passes a test in a range, as a list and as a progression. Assumes nothing.
 use Rattle.std.proofs.Common.{◌≡◌, ℕ, zero, suc, ◌+◌, ◌-◌, ◌*◌, ◌/◌, ◌<◌, ◌≤◌, Bool, true, false, cond, List, [], ◌∷◌, length, Some, None, filter, Option, sym, refl, ap, ◌∙◌, subst, inl, inr, mul-le-mul_right, arith}
-use Rattle.std.specs.List.{range_with_len, ContainsAt as Has, AllByRecursion as All}
+use Rattle.std.specs.List.{range_with_len, ContainsAt as Has, AllByRecursion}
 use Rattle.std.proofs.lemmas.Nat.{div-add-mod', le-div}
 use Rattle.std.proofs.lemmas.List.FromFn.{length-range_with_len, get_or-range_with_len}
 use Rattle.std.proofs.ByRecursion.{All-from_get_or, all-has, all_kept_by, has_append_right, kept_by_passes}
@@ -172,7 +172,7 @@ tells_one test a b x found none =
     (record { some = omega arith; alone = λ one. refl; still = λ step. refl }, stepwise_one test a b x found.0 found.1 found.2 none found.3)
 
 -- the numbers of a range, and what stands in a list that is longer by one or not
-counting_within : (a c : ℕ) → All (λ x. (a ≤ x) × (x < a + c)) (range_with_len a c)
+counting_within : (a c : ℕ) → AllByRecursion (λ x. (a ≤ x) × (x < a + c)) (range_with_len a c)
 counting_within a c =
     All-from_get_or (λ x. (a ≤ x) × (x < a + c)) (range_with_len a c) 0 (λ i h.
     let below : i < c = subst (λ n. i < n) (length-range_with_len a c) h in

@@ -2,7 +2,7 @@
 -- Assumes nothing.
 use Rattle.std.proofs.Common.{◌≡◌, ℕ, zero, suc, List, [], ◌∷◌, ◌++◌, map, replicate, Some, sym, refl, ap, ◌∙◌}
 use Rattle.std.proofs.lemmas.List.{append-nil}
-use Rattle.std.specs.List.{AllByRecursion as All}
+use Rattle.std.specs.List.{AllByRecursion}
 use Rattle.rows.specs.declared.Shape.{Shape}
 use Rattle.rows.specs.declared.Shape.TheVariants.{Leaf, Pair, Repeat}
 use Rattle.rows.specs.declared.Row.{Row}
@@ -32,7 +32,7 @@ module _ (rows : List Row) (parts : Parts rows) where
       let is = find_known rows shape n found in
       strip_of_row rows parts n is.0 is.1 ∙ ap (shape_strip rows) is.2
 
-  named_keep : (k : ℕ) (bs : List Block) (numbers : List ℕ) → All (InRound k) bs → Named rows bs numbers → expanded rows numbers ≡ expanded rows (spelled bs)
+  named_keep : (k : ℕ) (bs : List Block) (numbers : List ℕ) → AllByRecursion (InRound k) bs → Named rows bs numbers → expanded rows numbers ≡ expanded rows (spelled bs)
   named_keep k [] [] kinds named = refl
   named_keep k [] (n ∷ numbers) kinds named = absurd named
   named_keep k (b ∷ bs) [] kinds named = absurd named

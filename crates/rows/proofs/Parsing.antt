@@ -1,7 +1,7 @@
 -- A round's blocks spell the string that they were read from, and any part of them is what its own string
 -- is read as. Assumes nothing.
 use Rattle.std.proofs.Common.{◌≡◌, ℕ, zero, suc, ◌+◌, ◌%◌, ◌≤◌, Bool, true, false, cond, not, eqb, ltb, List, [], ◌∷◌, ◌++◌, replicate, sym, refl, ap, ◌∙◌, subst, arith}
-use Rattle.std.specs.List.{flat_map, AllByRecursion as All}
+use Rattle.std.specs.List.{flat_map, AllByRecursion}
 use Rattle.std.proofs.lemmas.List.{append_assoc, replicate_more}
 use Rattle.std.proofs.lemmas.Bool.{both_ways, cond_both, cond-true, cond-false, and_parts, and_left, not-true, eqb-true, eq-eqb, ltb-true, ltb-false, le-ltb}
 use Rattle.rows.specs.declared.Shape.TheVariants.{Leaf, Pair, Repeat}
@@ -68,7 +68,7 @@ pub parsed_before : (k : ℕ) (bs cs : List Block) → Parsed k (bs ++ cs) → P
 parsed_before k [] cs p = tt
 parsed_before k (b ∷ bs) cs p = (p.0, apart_before k (last_of b) bs cs p.1, parsed_before k bs cs p.2)
 
-kinds_from_parsed : (k : ℕ) (bs : List Block) → Parsed k bs → All (InRound k) bs
+kinds_from_parsed : (k : ℕ) (bs : List Block) → Parsed k bs → AllByRecursion (InRound k) bs
 kinds_from_parsed k [] p = tt
 kinds_from_parsed k (b ∷ bs) p = (p.0, kinds_from_parsed k bs p.2)
 
@@ -268,7 +268,7 @@ blocks_part k s before middle after e =
     let whole : Parsed k (before ++ (middle ++ after)) = subst (Parsed k) e (parsed_blocks k s) in
     blocks_spelled k middle (parsed_before k middle after (parsed_after k before (middle ++ after) whole))
 
-pub block_kinds : (k : ℕ) (s : List ℕ) → All (InRound k) (blocks k s)
+pub block_kinds : (k : ℕ) (s : List ℕ) → AllByRecursion (InRound k) (blocks k s)
 block_kinds k s = kinds_from_parsed k (blocks k s) (parsed_blocks k s)
 
 pub blocks_none : (k : ℕ) → blocks k [] ≡ []

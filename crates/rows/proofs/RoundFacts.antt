@@ -2,7 +2,7 @@
 -- strings, and how many rounds there can be. Assumes nothing.
 use Rattle.std.proofs.Common.{◌≡◌, ℕ, zero, suc, ◌+◌, ◌-◌, ◌*◌, ◌<◌, ◌≤◌, ltb, List, [], ◌∷◌, ◌++◌, length, Some, sym, refl, ap, ◌∙◌, subst, inl, inr, arith}
 use Rattle.std.proofs.lemmas.Bool.{cases_Bool, cases_lt, cases_eq, cond-true, cond-false, le-ltb}
-use Rattle.std.specs.List.{AllByRecursion as All}
+use Rattle.std.specs.List.{AllByRecursion}
 use Rattle.rows.specs.declared.Row.{Row}
 use Rattle.rows.specs.Rounds.{Block, one, new, blocks, Filed, then, round, Settled, settled, rounds_from}
 use Rattle.rows.proofs.Ends.{blocks_shorter, blocks_unshortened, some_round_shortens}
@@ -111,9 +111,9 @@ fragment_comes rows (suc j) s before part after c =
 
 -- numbers of a string that rows know
 abbrev pub Known : List Row → List ℕ → Type 0
-Known rows numbers = All (λ n. (0 < n) × (n ≤ length rows)) numbers
+Known rows numbers = AllByRecursion (λ n. (0 < n) × (n ≤ length rows)) numbers
 
-pub all_split : (P : ℕ → Type 0) (a b : List ℕ) → All P (a ++ b) → All P a × All P b
+pub all_split : (P : ℕ → Type 0) (a b : List ℕ) → AllByRecursion P (a ++ b) → AllByRecursion P a × AllByRecursion P b
 all_split P [] b h = (tt, h)
 all_split P (x ∷ a) b h = let rest = all_split P a b h.1 in ((h.0, rest.0), rest.1)
 

@@ -4,7 +4,7 @@ use Rattle.std.proofs.Common.{◌≡◌, ℕ, zero, suc, ◌+◌, ◌*◌, ◌<�
 use lib.ListN.{length-map}
 use Rattle.std.proofs.lemmas.List.{append-nil, append_assoc, length_push, take_all, length-replicate}
 use Rattle.std.proofs.lemmas.Bool.{cases_Bool, cases_eq, cases_lt, cond-true, cond-false, and_from, lt-ltb, le-leb, ltb-true}
-use Rattle.std.specs.List.{AllByRecursion as All}
+use Rattle.std.specs.List.{AllByRecursion}
 use Rattle.rows.specs.declared.Shape.{Shape}
 use Rattle.rows.specs.declared.Shape.TheVariants.{Leaf, Pair, Repeat}
 use Rattle.rows.specs.declared.Row.{Row}
@@ -203,7 +203,7 @@ abbrev Addable : ℕ → List Row → Block → Type 0
 Addable k rows (one n) = Unit {0}
 Addable k rows (new shape) = (more : List Row) → Lawful (rows ++ more) → find (rows ++ more) shape ≡ None → length (rows ++ more) < 1024 → Lawful ((rows ++ more) ++ (row_made k (rows ++ more) shape ∷ []))
 
-filing_lawful : (k : ℕ) (rows more : List Row) (bs : List Block) (f : Filed) → All (Addable k rows) bs → Lawful (rows ++ more) → file_all k bs (rows ++ more) ≡ Some f → Lawful f.rows
+filing_lawful : (k : ℕ) (rows more : List Row) (bs : List Block) (f : Filed) → AllByRecursion (Addable k rows) bs → Lawful (rows ++ more) → file_all k bs (rows ++ more) ≡ Some f → Lawful f.rows
 unfolding file_all
 filing_lawful k rows more [] f addable law h = let e : record { numbers = []; rows = rows ++ more } ≡ f = cc in subst (λ g. Lawful g.rows) e law
 filing_lawful k rows more (one n ∷ bs) f addable law h =
@@ -226,7 +226,7 @@ filing_lawful k rows more (new shape ∷ bs) f addable law h =
     subst (λ g. Lawful g.rows) e (filing_lawful k rows (more ++ grows.added) bs rest.0 addable.1 still (subst (λ rs. file_all k bs rs ≡ Some rest.0) regroup rest.1))
 
 -- leaves keep rows lawful
-leaves_addable : (rows : List Row) (codes : List ℕ) → All (Addable 0 rows) (map leaf_block codes)
+leaves_addable : (rows : List Row) (codes : List ℕ) → AllByRecursion (Addable 0 rows) (map leaf_block codes)
 leaves_addable rows [] = tt
 leaves_addable rows (c ∷ codes) = (λ more law absent room. leaf_lawful (rows ++ more) c law absent room, leaves_addable rows codes)
 
@@ -245,12 +245,12 @@ module _ (rows : List Row) (codes source : List ℕ) (short : length codes ≤ 6
       shape_lawful (rows ++ more) law j shape kind single_s absent room back.0 part.source inside
       (named_append rows more (map leaf_block back.0) part.source back.3) (comes_append rows more j part.source (symbols (new shape)) part.comes)
 
-  all_addable : (before bs : List Block) → blocks (suc j) u ≡ before ++ bs → All (InRound (suc j)) bs → All (Addable (suc j) rows) bs
+  all_addable : (before bs : List Block) → blocks (suc j) u ≡ before ++ bs → AllByRecursion (InRound (suc j)) bs → AllByRecursion (Addable (suc j) rows) bs
   all_addable before [] parsed kinds = tt
   all_addable before (b ∷ bs) parsed kinds =
       (block_addable before b bs parsed kinds.0, all_addable (before ++ (b ∷ [])) bs (parsed ∙ sym (append_assoc before (b ∷ []) bs)) kinds.1)
 
-  round_addable : All (Addable (suc j) rows) (blocks (suc j) u)
+  round_addable : AllByRecursion (Addable (suc j) rows) (blocks (suc j) u)
   round_addable = all_addable [] (blocks (suc j) u) refl (block_kinds (suc j) u)
 
 -- a round, and all rounds, keep rows lawful

@@ -3,7 +3,7 @@
 use Rattle.std.proofs.Common.{◌≡◌, ℕ, zero, suc, ◌+◌, ltb, List, [], ◌∷◌, map, length, Some, sym, ◌∙◌, subst, inl, inr}
 use Rattle.std.proofs.ByRecursion.{All-append}
 use Rattle.std.proofs.lemmas.Bool.{cases_Bool, cond-true, cond-false}
-use Rattle.std.specs.List.{AllByRecursion as All}
+use Rattle.std.specs.List.{AllByRecursion}
 use Rattle.rows.specs.declared.Shape.{Shape}
 use Rattle.rows.specs.declared.Shape.TheVariants.{Leaf, Pair, Repeat}
 use Rattle.rows.specs.declared.Row.{Row}
@@ -15,13 +15,13 @@ use Rattle.rows.proofs.Parsing.{InRound, block_kinds}
 
 module _ (P : Shape → Type 0) where
   abbrev pub Shapes : List Row → Type 0
-  Shapes rows = All (λ row. P row.shape) rows
+  Shapes rows = AllByRecursion (λ row. P row.shape) rows
 
   abbrev OfBlock : Block → Type 0
   OfBlock (one n) = Unit {0}
   OfBlock (new shape) = P shape
 
-  filed_shapes : (k : ℕ) (bs : List Block) (rows : List Row) (f : Filed) → All OfBlock bs → Shapes rows → file_all k bs rows ≡ Some f → Shapes f.rows
+  filed_shapes : (k : ℕ) (bs : List Block) (rows : List Row) (f : Filed) → AllByRecursion OfBlock bs → Shapes rows → file_all k bs rows ≡ Some f → Shapes f.rows
   unfolding file_all
   filed_shapes k [] rows f new_shapes all h = let e : record { numbers = []; rows = rows } ≡ f = cc in subst (λ g. Shapes g.rows) e all
   filed_shapes k (one n ∷ bs) rows f new_shapes all h =
@@ -40,7 +40,7 @@ module _ (P : Shape → Type 0) where
       subst (λ g. Shapes g.rows) e (filed_shapes k bs found.rows rest.0 new_shapes.1 still rest.1)
 
   module _ (pairs_do : (l r : ℕ) → P (Pair l r)) (repeats_do : (p m : ℕ) → P (Repeat p m)) where
-    round_shapes : (k : ℕ) (bs : List Block) → All (InRound k) bs → All OfBlock bs
+    round_shapes : (k : ℕ) (bs : List Block) → AllByRecursion (InRound k) bs → AllByRecursion OfBlock bs
     round_shapes k [] kinds = tt
     round_shapes k (one n ∷ bs) kinds = (tt, round_shapes k bs kinds.1)
     round_shapes k (new (Leaf c) ∷ bs) kinds = absurd kinds.0
@@ -60,11 +60,11 @@ module _ (P : Shape → Type 0) where
               rounds_shapes most (k + 1) next.0 s (filed_shapes (k + 1) (blocks (k + 1) f.numbers) f.rows next.0 (round_shapes (k + 1) (blocks (k + 1) f.numbers) (block_kinds (k + 1) f.numbers)) all next.1) next.2
         ]
 
-    leaf_shapes : (codes : List ℕ) → All (λ c. P (Leaf c)) codes → All OfBlock (map leaf_block codes)
+    leaf_shapes : (codes : List ℕ) → AllByRecursion (λ c. P (Leaf c)) codes → AllByRecursion OfBlock (map leaf_block codes)
     leaf_shapes [] all = tt
     leaf_shapes (c ∷ codes) all = (all.0, leaf_shapes codes all.1)
 
-    pub settle_shapes : (rows : List Row) (codes : List ℕ) (s : Settled) → Shapes rows → All (λ c. P (Leaf c)) codes → settle rows codes ≡ Some s → Shapes s.rows
+    pub settle_shapes : (rows : List Row) (codes : List ℕ) (s : Settled) → Shapes rows → AllByRecursion (λ c. P (Leaf c)) codes → settle rows codes ≡ Some s → Shapes s.rows
     settle_shapes rows codes s all leaf_codes h =
         let pieces = settle_parts rows codes s h in
         rounds_shapes (enough_rounds (length codes)) 0 pieces.0 s (filed_shapes 0 (map leaf_block codes) rows pieces.0 (leaf_shapes codes leaf_codes) all pieces.1) pieces.2

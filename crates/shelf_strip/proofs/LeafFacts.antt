@@ -4,7 +4,7 @@ use lib.ListN.{length-reverse}
 use Rattle.std.proofs.ByRecursion.{All-append, All-get_or, All-from_get_or, All-weaker}
 use Rattle.std.proofs.lemmas.List.{get_or-reverse}
 use Rattle.std.proofs.lemmas.Bool.{cases_lt}
-use Rattle.std.specs.List.{AllByRecursion as All}
+use Rattle.std.specs.List.{AllByRecursion}
 use Rattle.recompression.proofs.CodeFacts.{strip_unknown}
 use Rattle.rows.specs.declared.Shape.{Shape}
 use Rattle.rows.specs.declared.Shape.TheVariants.{Leaf, Pair, Repeat}
@@ -23,21 +23,21 @@ use Rattle.shelf_strip.proofs.SeenFacts.{pair_below, repeat_below}
 abbrev pub HasLeaf : List Row → ℕ → ℕ → Type 0
 HasLeaf rows n code = (m : ℕ) × (m ≤ n) × (find rows (Leaf code) ≡ Some m)
 
-all_times : (P : ℕ → Type 0) (m : ℕ) (xs : List ℕ) → All P xs → All P (times m xs)
+all_times : (P : ℕ → Type 0) (m : ℕ) (xs : List ℕ) → AllByRecursion P xs → AllByRecursion P (times m xs)
 all_times P zero xs all = tt
 all_times P (suc m) xs all = All-append P xs (times m xs) all (all_times P m xs all)
 
-all_reverse : (P : ℕ → Type 0) (xs : List ℕ) → All P xs → All P (reverse xs)
+all_reverse : (P : ℕ → Type 0) (xs : List ℕ) → AllByRecursion P xs → AllByRecursion P (reverse xs)
 all_reverse P xs all =
     All-from_get_or P (reverse xs) 0 (λ k h.
     let inside : k < length xs = omega (arith, length-reverse xs) in
     subst P (sym (get_or-reverse xs k 0 inside)) (All-get_or P xs (length xs - 1 - k) 0 (omega arith) all))
 
 module _ (rows : List Row) (law : Lawful rows) where
-  leaf_weaker : (m n : ℕ) → m ≤ n → (xs : List ℕ) → All (HasLeaf rows m) xs → All (HasLeaf rows n) xs
+  leaf_weaker : (m n : ℕ) → m ≤ n → (xs : List ℕ) → AllByRecursion (HasLeaf rows m) xs → AllByRecursion (HasLeaf rows n) xs
   leaf_weaker m n le xs all = All-weaker (HasLeaf rows m) (HasLeaf rows n) (λ code leaf. (leaf.0, omega (arith, leaf.1), leaf.2)) xs all
 
-  shape_leaves : (n : ℕ) (shape : Shape) → parts_below n shape ≡ true → find rows shape ≡ Some n → ((part : ℕ) → part < n → All (HasLeaf rows part) (strip rows part)) → All (HasLeaf rows n) (shape_strip rows shape)
+  shape_leaves : (n : ℕ) (shape : Shape) → parts_below n shape ≡ true → find rows shape ≡ Some n → ((part : ℕ) → part < n → AllByRecursion (HasLeaf rows part) (strip rows part)) → AllByRecursion (HasLeaf rows n) (shape_strip rows shape)
   shape_leaves n (Leaf code) parts found below = ((n, omega arith, found), tt)
   shape_leaves n (Pair left right) parts found below =
       let falls = pair_below Ahead n left right parts in
@@ -48,18 +48,18 @@ module _ (rows : List Row) (law : Lawful rows) where
       let falls = repeat_below n part count parts in
       all_times (HasLeaf rows n) count (strip rows part) (leaf_weaker part n (omega arith) (strip rows part) (below part falls))
 
-  strip_leaves : (most n : ℕ) → n ≤ most → All (HasLeaf rows n) (strip rows n)
-  strip_leaves most zero few = subst (All (HasLeaf rows 0)) (sym (strip_none rows)) tt
+  strip_leaves : (most n : ℕ) → n ≤ most → AllByRecursion (HasLeaf rows n) (strip rows n)
+  strip_leaves most zero few = subst (AllByRecursion (HasLeaf rows 0)) (sym (strip_none rows)) tt
   strip_leaves zero (suc n) few = absurd (omega arith)
   strip_leaves (suc most) (suc n) few =
       elim (cases_lt (length rows) (suc n)) [
-        | inl unknown ↦ subst (All (HasLeaf rows (suc n))) (sym (strip_unknown rows (suc n) unknown)) tt
+        | inl unknown ↦ subst (AllByRecursion (HasLeaf rows (suc n))) (sym (strip_unknown rows (suc n) unknown)) tt
         | inr known ↦
             let row = row_lawful rows law (suc n) (omega arith) known in
-            subst (All (HasLeaf rows (suc n))) (sym (strip_of_row rows (lawful_parts rows law) (suc n) (omega arith) known))
+            subst (AllByRecursion (HasLeaf rows (suc n))) (sym (strip_of_row rows (lawful_parts rows law) (suc n) (omega arith) known))
             (shape_leaves (suc n) (row_of rows (suc n)).shape row.parts row.found (λ part falls. strip_leaves most part (omega arith)))
       ]
 
-  pub seen_leaves : (side : Side) (n : ℕ) → All (HasLeaf rows n) (seen side rows n)
+  pub seen_leaves : (side : Side) (n : ℕ) → AllByRecursion (HasLeaf rows n) (seen side rows n)
   seen_leaves Ahead n = strip_leaves n n (omega arith)
   seen_leaves Behind n = all_reverse (HasLeaf rows n) (strip rows n) (strip_leaves n n (omega arith))
