@@ -1,6 +1,6 @@
 #!/usr/bin/env python3
 """How many instructions the job program takes, counted by valgrind: for a take of some cells, and for one question
-for places after it. Call it with the path of the program: tools/job_costs.py target/bin/strip_job
+for places after it. Call it with the path of the program: tools/job_costs.py crates/strip_job/out/strip_job
 
 The instructions of an empty job are taken off, so that what is left is the command's own: for a take that of its C
 commands and its T, for a question that of its F alone."""

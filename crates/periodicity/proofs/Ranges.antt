@@ -1,6 +1,6 @@
 -- What passes a test in a range, as a list and as a progression. Assumes nothing.
 use Rattle.std.proofs.Common.{◌≡◌, ℕ, zero, suc, ◌+◌, ◌-◌, ◌*◌, ◌/◌, ◌<◌, ◌≤◌, Bool, true, false, cond, List, [], ◌∷◌, length, Some, None, filter, Option, sym, refl, ap, ◌∙◌, subst, inl, inr, mul-le-mul_right, arith}
-use Rattle.std.specs.List.{range_with_len, ContainsAt as Has, AllByRecursion}
+use Rattle.std.specs.List.{range_with_len, ContainsAt, AllByRecursion}
 use Rattle.std.proofs.lemmas.Nat.{div-add-mod', le-div}
 use Rattle.std.proofs.lemmas.List.FromFn.{length-range_with_len, get_or-range_with_len}
 use Rattle.std.proofs.ByRecursion.{All-from_get_or, all-has, all_kept_by, has_append_right, kept_by_passes}
@@ -178,23 +178,23 @@ counting_within a c =
     let below : i < c = subst (λ n. i < n) (length-range_with_len a c) h in
     subst (λ x. (a ≤ x) × (x < a + c)) (sym (get_or-range_with_len a c i 0 below)) (omega arith, omega arith))
 
-has_here : (b : Bool) (a p : ℕ) (ys : List ℕ) → b ≡ true → a ≡ p → Has (cond b (a ∷ ys) ys) p
+has_here : (b : Bool) (a p : ℕ) (ys : List ℕ) → b ≡ true → a ≡ p → ContainsAt (cond b (a ∷ ys) ys) p
 has_here true a p ys pass e = (0, omega arith, λ d. e)
 has_here false a p ys pass e = absurd (both_ways false refl pass)
 
-has_later : (b : Bool) (a p : ℕ) (ys : List ℕ) → Has ys p → Has (cond b (a ∷ ys) ys) p
+has_later : (b : Bool) (a p : ℕ) (ys : List ℕ) → ContainsAt ys p → ContainsAt (cond b (a ∷ ys) ys) p
 has_later true a p ys has = has_append_right (a ∷ []) ys p has
 has_later false a p ys has = has
 
 -- a number is among those of a range that pass exactly when it lies in the range and passes
 module _ (test : ℕ → Bool) where
-  pub pass_from_has : (a c p : ℕ) → Has (filter test (range_with_len a c)) p → (a ≤ p) × (p < a + c) × (test p ≡ true)
+  pub pass_from_has : (a c p : ℕ) → ContainsAt (filter test (range_with_len a c)) p → (a ≤ p) × (p < a + c) × (test p ≡ true)
   pass_from_has a c p has =
       let kept = filter test (range_with_len a c) in
       let within = all-has (λ x. (a ≤ x) × (x < a + c)) kept p (all_kept_by test (λ x. (a ≤ x) × (x < a + c)) (range_with_len a c) (counting_within a c)) has in
       (within.0, within.1, all-has (λ x. test x ≡ true) kept p (kept_by_passes test (range_with_len a c)) has)
 
-  pub has_from_pass : (a c p : ℕ) → a ≤ p → p < a + c → test p ≡ true → Has (filter test (range_with_len a c)) p
+  pub has_from_pass : (a c p : ℕ) → a ≤ p → p < a + c → test p ≡ true → ContainsAt (filter test (range_with_len a c)) p
   has_from_pass a zero p lo hi pass = absurd (omega arith)
   has_from_pass a (suc c) p lo hi pass =
       elim (cases_eq a p) [

@@ -2,7 +2,7 @@
 -- are all periods. Assumes nothing.
 use Rattle.std.proofs.Common.{◌≡◌, ℕ, zero, suc, ◌+◌, ◌-◌, ◌*◌, ◌^◌, ◌<◌, ◌≤◌, Bool, true, false, cond, ◌&&◌, ltb, leb, ◌↔◌, List, [], ◌∷◌, ◌++◌, length, take, drop, replicate, Some, None, filter, Option, sym, refl, ap, ◌∙◌, subst, inl, inr, arith, length-append, length-drop, length-take, get_or-drop, get_or-take}
 use lib.ListN.{length-replicate}
-use Rattle.std.specs.List.{range_with_len, flat_map, ContainsAt as Has}
+use Rattle.std.specs.List.{range_with_len, flat_map, ContainsAt}
 use Rattle.std.specs.Option.{option_to_list, option_map}
 use Rattle.std.proofs.lemmas.Nat.{pow-add, pow_pos}
 use Rattle.std.proofs.lemmas.List.Elements.{filter-append}
@@ -304,7 +304,7 @@ written_name_all xs some short =
     (both.0, both.1 ∙ records_name_all xs some short)
 
 -- a number is among the periods exactly when it is a distance at which the list agrees with itself
-pub period_among : (xs : List ℕ) (p : ℕ) → Has (periods_of xs) p ↔ ((1 ≤ p) × (p ≤ length xs) × Period xs p)
+pub period_among : (xs : List ℕ) (p : ℕ) → ContainsAt (periods_of xs) p ↔ ((1 ≤ p) × (p ≤ length xs) × Period xs p)
 period_among xs p = (
   λ has.
       let kept = pass_from_has (has_period xs) 1 (length xs) p has in
@@ -319,7 +319,7 @@ written_named xs some short =
     record {
       ranges = refl;
       once = all;
-      exact = λ p. subst (λ ys. Has ys p ↔ ((1 ≤ p) × (p ≤ length xs) × Period xs p)) (sym all) (period_among xs p);
+      exact = λ p. subst (λ ys. ContainsAt ys p ↔ ((1 ≤ p) × (p ≤ length xs) × Period xs p)) (sym all) (period_among xs p);
     }
 
 -- the records, range by range

@@ -1,6 +1,6 @@
 -- Periods and borders of a list, and the records that name them. Assumes nothing.
 use Rattle.std.specs.Prelude.{◌≡◌, ℕ, zero, suc, ◌+◌, ◌-◌, ◌^◌, ◌<◌, ◌≤◌, Bool, ◌&&◌, ◌↔◌, List, [], ◌∷◌, ◌++◌, length, take, drop, replicate, filter, nat_le, nat_lt, slice_index}
-use Rattle.std.specs.List.{range_with_len, flat_map, ContainsAt as Has}
+use Rattle.std.specs.List.{range_with_len, flat_map, ContainsAt}
 use Rattle.std.specs.Option.{option_to_list}
 use Rattle.periodicity.specs.declared.Progression.{Progression}
 use Rattle.periodicity.specs.Agreement.{same}
@@ -49,4 +49,4 @@ pub record PeriodsNamed (xs : List ℕ) (records : List Progression) : Type 0 wh
   pub once : flat_map named_by records ≡ periods_of xs
   -- a number is among those exactly when it is a distance, from 1 to the length, at which the list agrees
   -- with itself
-  pub exact : (p : ℕ) → Has (flat_map named_by records) p ↔ ((1 ≤ p) × (p ≤ length xs) × Period xs p)
+  pub exact : (p : ℕ) → ContainsAt (flat_map named_by records) p ↔ ((1 ≤ p) × (p ≤ length xs) × Period xs p)
