@@ -1,4 +1,4 @@
--- The table of all worked examples, one subject after the other. Assumes nothing.
+-- The table of worked examples, one subject after the other; those of jobs stand beside it. Assumes nothing.
 use Rattle.std.specs.Prelude.{◌++◌}
 use Rattle.worked.specs.Examples.{Examples}
 use Rattle.worked.specs.Agreement.{agreement_examples}

@@ -1,5 +1,6 @@
 // Worked examples: small cases, worked out by hand, of what the definitions that the contracts of the
-// code cite come to. They stand in one table, a file of `specs/` for each subject, and are shown here.
+// code cite come to. They stand in one table, a file of `specs/` for each subject, with those of jobs beside it,
+// and are shown here.
 #![tactic(auto)]
 
 ghost use Rattle.std.specs.Prelude.{◌≡◌, length};

@@ -1,5 +1,5 @@
--- The table holds, one subject after the other, and the count is its length.
-use Rattle.std.proofs.Common.{◌++◌, arith}
+-- The table holds, one subject after the other.
+use Rattle.std.proofs.Common.{◌++◌}
 use Rattle.worked.specs.Agreement.{agreement_examples}
 use Rattle.worked.specs.Places.{places_examples}
 use Rattle.worked.specs.Overlaps.{overlaps_examples}
@@ -13,12 +13,9 @@ use Rattle.worked.proofs.Periods.{periods_hold}
 use Rattle.worked.proofs.Shelf.{shelf_hold}
 use Rattle.worked.proofs.worked_examples.Goals as goal
 
-pub returns : goal.returns
-returns c = record {
-  hold =
-      both_hold agreement_examples (places_examples ++ (overlaps_examples ++ (periods_examples ++ shelf_examples))) agreement_hold
-      (both_hold places_examples (overlaps_examples ++ (periods_examples ++ shelf_examples)) places_hold
-      (both_hold overlaps_examples (periods_examples ++ shelf_examples) overlaps_hold
-      (both_hold periods_examples shelf_examples periods_hold shelf_hold)));
-  counted = omega arith;
-}
+pub returns-clause-hold : goal.returns-clause-hold
+returns-clause-hold c =
+    both_hold agreement_examples (places_examples ++ (overlaps_examples ++ (periods_examples ++ shelf_examples))) agreement_hold
+    (both_hold places_examples (overlaps_examples ++ (periods_examples ++ shelf_examples)) places_hold
+    (both_hold overlaps_examples (periods_examples ++ shelf_examples) overlaps_hold
+    (both_hold periods_examples shelf_examples periods_hold shelf_hold)))

@@ -1,10 +1,6 @@
--- The examples of jobs hold, and the count is their length.
-use Rattle.std.proofs.Common.{arith}
+-- The examples of jobs hold.
 use Rattle.worked.proofs.Jobs.{jobs_hold}
 use Rattle.worked.proofs.worked_jobs.Goals as goal
 
-pub returns : goal.returns
-returns c = record {
-  hold = jobs_hold;
-  counted = omega arith;
-}
+pub returns-clause-hold : goal.returns-clause-hold
+returns-clause-hold c = jobs_hold
