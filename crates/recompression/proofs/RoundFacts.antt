@@ -1,10 +1,10 @@
 -- Rounds run in place: the class of a number by its turn, the first block of a string, and a pass that reads
 -- ahead of where it writes. Assumes nothing.
-use Rattle.std.proofs.Common.{◌≡◌, ℕ, ◌+◌, ◌-◌, ◌/◌, ◌%◌, ◌<◌, ◌≤◌, Bool, true, false, eqb, List, [], ◌∷◌, ◌++◌, length, get_or, take, drop, set, Some, None, Option, sym, refl, ap, ◌∙◌, subst, arith, length-set, length-take}
+use Rattle.std.proofs.Common.{◌≡◌, ℕ, ◌+◌, ◌-◌, ◌/◌, ◌%◌, ◌<◌, ◌≤◌, Bool, true, false, not, eqb, List, [], ◌∷◌, ◌++◌, length, get_or, take, drop, set, Some, None, Option, sym, refl, ap, ◌∙◌, subst, arith, length-set, length-take}
 use Rattle.std.proofs.lemmas.List.Edits.{get_or-between}
 use Rattle.std.proofs.lemmas.List.{append-nil, append_assoc, at_drop_more, at_drop_all, take-append-le, take_all, take_more_set, drop-drop, drop-set-lt}
 use Rattle.std.proofs.lemmas.Slice.{between_is}
-use Rattle.std.proofs.lemmas.Bool.{cond-true, cond-false, eq-eqb, ne_eqb}
+use Rattle.std.proofs.lemmas.Bool.{cond-true, cond-false, eq-eqb, ne_eqb, and_from, and_left, and_right, not_from_true, not_from_false}
 use Rattle.rows.specs.declared.Shape.TheVariants.{Pair}
 use Rattle.rows.specs.declared.Row.{Row}
 use Rattle.rows.specs.Filing.{Numbered, file}
@@ -41,10 +41,10 @@ module _ (s : List ℕ) (n m : ℕ) where
   stretch_last past = at_drop_all (stretches_from n m) s m past ∙ sym (at_drop_all (λ t. stretch n m ∷ stretches t) s m past)
 
 -- the first pair of a string, or its first number
-pub partner_joins : (k : ℕ) (s : List ℕ) → 2 ≤ length s → joins k (get_or s 0 0) (get_or s 1 0) ≡ true → Partner k s (Some (get_or s 1 0))
-partner_joins k [] long joining = absurd (omega arith)
-partner_joins k (x ∷ []) long joining = absurd (omega arith)
-partner_joins k (x ∷ (y ∷ s)) long joining = (long, cond-true (joins k x y) (new (Pair x y) ∷ pairs k s) (one x ∷ pairs_from k y s) joining)
+pub partner_joined : (k : ℕ) (s : List ℕ) → 2 ≤ length s → joins k (get_or s 0 0) (get_or s 1 0) ≡ true → Partner k s (Some (get_or s 1 0))
+partner_joined k [] long joining = absurd (omega arith)
+partner_joined k (x ∷ []) long joining = absurd (omega arith)
+partner_joined k (x ∷ (y ∷ s)) long joining = (long, cond-true (joins k x y) (new (Pair x y) ∷ pairs k s) (one x ∷ pairs_from k y s) joining)
 
 pub partner_apart : (k : ℕ) (s : List ℕ) → 2 ≤ length s → joins k (get_or s 0 0) (get_or s 1 0) ≡ false → Partner k s None
 partner_apart k [] long apart = absurd (omega arith)
@@ -55,6 +55,21 @@ pub partner_none : (k : ℕ) (s : List ℕ) → 0 < length s → length s < 2 �
 partner_none k [] some short = absurd (omega arith)
 partner_none k (x ∷ []) some short = refl
 partner_none k (x ∷ (y ∷ s)) some short = absurd (omega arith)
+
+-- the same from the classes of the first two numbers
+pub partner_joins : (k : ℕ) (s : List ℕ) → 2 ≤ length s → is_left k (get_or s 0 0) ≡ true → is_left k (get_or s 1 0) ≡ false → Partner k s (Some (get_or s 1 0))
+partner_joins k s long left right =
+    let first = is_left k (get_or s 0 0) in
+    let second = is_left k (get_or s 1 0) in
+    partner_joined k s long (and_from first (not second) left (not_from_false second right))
+
+pub partner_not_left : (k : ℕ) (s : List ℕ) → 2 ≤ length s → is_left k (get_or s 0 0) ≡ false → Partner k s None
+partner_not_left k s long right = partner_apart k s long (and_left (is_left k (get_or s 0 0)) (not (is_left k (get_or s 1 0))) right)
+
+pub partner_not_right : (k : ℕ) (s : List ℕ) → 2 ≤ length s → is_left k (get_or s 1 0) ≡ true → Partner k s None
+partner_not_right k s long left =
+    let second = is_left k (get_or s 1 0) in
+    partner_apart k s long (and_right (is_left k (get_or s 0 0)) (not second) (not_from_true second left))
 
 -- what filing answered, from the number and the rows
 pub filed_some : (rows grown : List Row) (o : Option Numbered) (n : ℕ) → Some n ≡ number_in o → grown ≡ rows_left rows o → o ≡ Some (record { number = n; rows = grown })

@@ -1,7 +1,7 @@
 -- Rounds run one after another in place, and what the last of them leaves. Assumes nothing.
-use Rattle.std.proofs.Common.{◌≡◌, ℕ, zero, suc, ◌+◌, ◌-◌, ◌*◌, ◌%◌, ◌<◌, ◌≤◌, true, false, eqb, ltb, ◌⊎◌, List, length, get_or, take, Some, None, sym, refl, ap, ◌∙◌, subst, inl, inr, arith, length-take}
+use Rattle.std.proofs.Common.{◌≡◌, ℕ, zero, suc, ◌+◌, ◌-◌, ◌*◌, ◌%◌, ◌<◌, ◌≤◌, eqb, ltb, ◌⊎◌, List, length, get_or, take, Some, None, sym, refl, ap, ◌∙◌, subst, inl, inr, arith, length-take}
 use Rattle.std.proofs.lemmas.List.{take_all, take-take, length-take-le, get_or-take}
-use Rattle.std.proofs.lemmas.Bool.{cond-true, cond-false, lt-ltb, le-ltb}
+use Rattle.std.proofs.lemmas.Bool.{cond-true, cond-false, lt-ltb, le-ltb, eq-eqb, ne_eqb}
 use Rattle.rows.specs.declared.Row.{Row}
 use Rattle.rows.specs.Rounds.{blocks, stretches, pairs, Filed, then, file_all, round, settled, rounds_from}
 use Rattle.rows.proofs.NamingFacts.{file_all_grows}
@@ -9,13 +9,13 @@ use Rattle.recompression.specs.InPlace.{Ran}
 use Rattle.recompression.specs.Settling.{all_rounds, RunThrough}
 use Rattle.recompression.proofs.RoundFacts.{begins_with_more}
 
-pub odd_blocks : (k : ℕ) (s : List ℕ) → eqb (k % 2) 1 ≡ true → stretches s ≡ blocks k s
+pub odd_blocks : (k : ℕ) (s : List ℕ) → k % 2 ≡ 1 → stretches s ≡ blocks k s
 unfolding blocks
-odd_blocks k s odd = sym (cond-true (eqb (k % 2) 1) (stretches s) (pairs k s) odd)
+odd_blocks k s odd = sym (cond-true (eqb (k % 2) 1) (stretches s) (pairs k s) (eq-eqb (k % 2) 1 odd))
 
-pub even_blocks : (k : ℕ) (s : List ℕ) → eqb (k % 2) 1 ≡ false → pairs k s ≡ blocks k s
+pub even_blocks : (k : ℕ) (s : List ℕ) → (k % 2 ≡ 1 → ⊥) → pairs k s ≡ blocks k s
 unfolding blocks
-even_blocks k s even = sym (cond-false (eqb (k % 2) 1) (stretches s) (pairs k s) even)
+even_blocks k s even = sym (cond-false (eqb (k % 2) 1) (stretches s) (pairs k s) (ne_eqb (k % 2) 1 even))
 
 -- one more round, and no more rounds
 rounds_more : (most k : ℕ) (f : Filed) → 2 ≤ length f.numbers → rounds_from (suc most) k f ≡ then (round (k + 1) f) (rounds_from most (k + 1))
