@@ -40,9 +40,9 @@ impl CellKind for Day {
         note: 0,
     };
 
-    ghost tag = { 2 };
+    ghost NUMBER = { 2 };
 
-    ghost blank = { blank_day };
+    ghost BLANK = { blank_day };
 
     // The note never counts.
     ghost same = { λ x y. (x.day ≡ y.day) × (x.weekday ≡ y.weekday) × (x.mark ≡ y.mark) };
@@ -68,14 +68,6 @@ impl CellKind for Day {
     ghost back = { Prim.search rules };
 
     ghost otherwise = { Prim.search rules };
-
-    fn kind_number() -> u8 {
-        Self::NUMBER
-    }
-
-    fn blank_cell() -> Day {
-        Self::BLANK
-    }
 
     fn code(&self) -> Option<u32> {
         match (self.day, self.weekday) {

@@ -13,9 +13,9 @@ impl CellKind for Glyph {
 
     const BLANK: Glyph = Glyph(32);
 
-    ghost tag = { 1 };
+    ghost NUMBER = { 1 };
 
-    ghost blank = { blank_glyph };
+    ghost BLANK = { blank_glyph };
 
     ghost same = { λ x y. x.0 ≡ y.0 };
 
@@ -40,14 +40,6 @@ impl CellKind for Glyph {
     ghost back = { Prim.search rules };
 
     ghost otherwise = { Prim.search rules };
-
-    fn kind_number() -> u8 {
-        Self::NUMBER
-    }
-
-    fn blank_cell() -> Glyph {
-        Self::BLANK
-    }
 
     fn code(&self) -> Option<u32> {
         Some(u32::from(self.0))

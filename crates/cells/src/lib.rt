@@ -25,15 +25,16 @@ pub use glyph::Glyph;
 pub use printing::first_unprintable;
 
 pub trait CellKind: Sized {
+    // The number of the kind.
     const NUMBER: u8;
 
+    // Its blank cell.
     const BLANK: Self;
 
-    // What `NUMBER` and `BLANK` are. No clause can name a constant, so `kind_number` and `blank_cell`, which
-    // every kind writes as the constants, tie each to its member.
-    ghost tag: { ℕ };
+    // The same two, as clauses and laws name them.
+    ghost NUMBER: { ℕ };
 
-    ghost blank: { Self };
+    ghost BLANK: { Self };
 
     // The kind's own rule of sameness.
     ghost same: { Self → Self → Type 0 };
@@ -46,14 +47,6 @@ pub trait CellKind: Sized {
 
     // The cell given back for a code.
     ghost given: { ℕ → Self };
-
-    // The number of the kind.
-    fn kind_number() -> u8
-        ensures { result ≡ tag };
-
-    // The blank of the kind.
-    fn blank_cell() -> Self
-        ensures { result ≡ blank };
 
     // The cell's code, or `None` where it is not printable.
     fn code(&self) -> Option<u32>
@@ -87,5 +80,5 @@ pub trait CellKind: Sized {
     ghost back: { (n : ℕ) → has n ≡ true → coded (given n) ≡ Some n };
 
     // The cell given back for a code that the kind has not is the blank.
-    ghost otherwise: { (n : ℕ) → has n ≡ false → given n ≡ blank };
+    ghost otherwise: { (n : ℕ) → has n ≡ false → given n ≡ BLANK };
 }

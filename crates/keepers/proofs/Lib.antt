@@ -1,2 +1,3 @@
 -- What the proofs of the keepers share.
 pub mod Greatests
+pub mod Chains

@@ -7,15 +7,18 @@
 mod loose;
 mod reversed;
 mod shared;
+mod side;
 mod window;
 
 ghost use Rattle.std.specs.Prelude.{◌≡◌, ℕ, List, length};
 ghost use Rattle.periodicity.specs.Agreement.{code_of, ahead_of, behind_of};
 ghost use Rattle.keepers.specs.Shortness.{AllShort};
 ghost use Rattle.keepers.specs.Extensions.{GreatestAhead, GreatestBehind};
+ghost use Rattle.keepers.specs.Sides.{extension_of, GreatestOn};
 
 pub use loose::LooseStrip;
 pub use reversed::Reversed;
+pub use side::Side;
 pub use window::Window;
 
 // The most codes that a keeper stands for.
@@ -36,15 +39,27 @@ pub trait Keeper {
     fn code_at(&self, place: usize) -> Option<u32>
         ensures { result ≡ code_of (codes self.now) place };
 
+    // The greatest number of codes that agree on a side of `i` and `j`; absent when `i` or `j` is above
+    // the length.
+    fn extension(&self, side: Side, i: usize, j: usize) -> Option<usize>
+        ensures value { result ≡ extension_of side (codes self.now) i j }
+        ensures greatest { GreatestOn side (codes self.now) i j result };
+
     // The greatest number of codes that agree from `i` and from `j` on; absent when `i` or `j` is
     // above the length.
-    fn ahead(&self, i: usize, j: usize) -> Option<usize>
+    final fn ahead(&self, i: usize, j: usize) -> Option<usize>
         ensures value { result ≡ ahead_of (codes self.now) i j }
-        ensures greatest { GreatestAhead (codes self.now) i j result };
+        ensures greatest { GreatestAhead (codes self.now) i j result }
+    {
+        self.extension(Side::Ahead, i, j)
+    }
 
     // The greatest number of codes that agree just before `i` and just before `j`, going back; absent
     // when `i` or `j` is above the length.
-    fn behind(&self, i: usize, j: usize) -> Option<usize>
+    final fn behind(&self, i: usize, j: usize) -> Option<usize>
         ensures value { result ≡ behind_of (codes self.now) i j }
-        ensures greatest { GreatestBehind (codes self.now) i j result };
+        ensures greatest { GreatestBehind (codes self.now) i j result }
+    {
+        self.extension(Side::Behind, i, j)
+    }
 }

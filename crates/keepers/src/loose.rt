@@ -1,10 +1,10 @@
 // A loose strip: a keeper of the caller's own codes, compared code by code.
 
 ghost use Rattle.std.specs.Prelude.{◌≡◌, ◌≤◌, reverse, length, take, drop};
-ghost use Rattle.periodicity.specs.Agreement.{common, Greatest};
+ghost use Rattle.periodicity.specs.Agreement.{common};
 ghost use Rattle.keepers.specs.Shortness.{most_codes, ShortList};
 
-use crate::{Keeper, MAX_CODES};
+use crate::{Keeper, MAX_CODES, Side};
 
 // The caller's codes, the first `MAX_CODES` of them.
 #[derive(Clone, Copy)]
@@ -32,34 +32,25 @@ fn first_codes(codes: &[u32], most: usize) -> &[u32]
     &codes[0..count]
 }
 
-// How many codes agree from `i` and from `j` on.
-fn agreeing_ahead(strip: &[u32], i: usize, j: usize) -> usize
-    requires { (i ≤ length strip.now) × (j ≤ length strip.now) }
-    ensures value { result ≡ common (drop i strip.now) (drop j strip.now) }
-    ensures greatest { Greatest (drop i strip.now) (drop j strip.now) result }
+// How many codes agree from the start of both lists on.
+fn agreeing_ahead(left: &[u32], right: &[u32]) -> usize
+    ensures { result ≡ common left.now right.now }
 {
-    let room = strip.len() - i.max(j);
-    for n in 0..room {
-        if strip[i + n] != strip[j + n] {
-            return n;
-        }
-    }
-    room
+    left.iter()
+        .zip(right)
+        .take_while(|(one, other)| one == other)
+        .count()
 }
 
-// How many codes agree just before `i` and just before `j`, going back.
-fn agreeing_behind(strip: &[u32], i: usize, j: usize) -> usize
-    requires { (i ≤ length strip.now) × (j ≤ length strip.now) }
-    ensures value { result ≡ common (reverse (take i strip.now)) (reverse (take j strip.now)) }
-    ensures greatest { Greatest (reverse (take i strip.now)) (reverse (take j strip.now)) result }
+// How many codes agree from the end of both lists back.
+fn agreeing_behind(left: &[u32], right: &[u32]) -> usize
+    ensures { result ≡ common (reverse left.now) (reverse right.now) }
 {
-    let room = i.min(j);
-    for n in 0..room {
-        if strip[i - 1 - n] != strip[j - 1 - n] {
-            return n;
-        }
-    }
-    room
+    left.iter()
+        .rev()
+        .zip(right.iter().rev())
+        .take_while(|(one, other)| one == other)
+        .count()
 }
 
 impl Keeper for LooseStrip<'_> {
@@ -72,25 +63,18 @@ impl Keeper for LooseStrip<'_> {
     }
 
     fn code_at(&self, place: usize) -> Option<u32> {
-        if place >= self.len() {
-            return None;
-        }
-        Some(self.kept[place])
+        self.kept.get(place).copied()
     }
 
-    fn ahead(&self, i: usize, j: usize) -> Option<usize> {
+    #[tactic(auto, using(crate::proofs::Greatests::greatest_on, crate::proofs::Greatests::ahead_counted_greatest))]
+    fn extension(&self, side: Side, i: usize, j: usize) -> Option<usize> {
         let len = self.len();
         if i > len || j > len {
             return None;
         }
-        Some(agreeing_ahead(self.kept, i, j))
-    }
-
-    fn behind(&self, i: usize, j: usize) -> Option<usize> {
-        let len = self.len();
-        if i > len || j > len {
-            return None;
-        }
-        Some(agreeing_behind(self.kept, i, j))
+        Some(match side {
+            Side::Ahead => agreeing_ahead(&self.kept[i..], &self.kept[j..]),
+            Side::Behind => agreeing_behind(&self.kept[..i], &self.kept[..j]),
+        })
     }
 }

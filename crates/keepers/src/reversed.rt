@@ -4,7 +4,7 @@ ghost use Rattle.std.specs.Prelude.{reverse};
 ghost use Rattle.keepers.specs.Layers.{ReversedAnswers};
 ghost use Rattle.keepers.specs.Shortness.{short_reverse};
 
-use crate::Keeper;
+use crate::{Keeper, Side};
 
 #[derive(Clone, Copy)]
 pub struct Reversed<K> {
@@ -37,19 +37,11 @@ impl<K: Keeper> Keeper for Reversed<K> {
         self.below.code_at(count - 1 - place)
     }
 
-    fn ahead(&self, i: usize, j: usize) -> Option<usize> {
+    fn extension(&self, side: Side, i: usize, j: usize) -> Option<usize> {
         let count = self.count();
         if i > count || j > count {
             return None;
         }
-        self.below.behind(count - i, count - j)
-    }
-
-    fn behind(&self, i: usize, j: usize) -> Option<usize> {
-        let count = self.count();
-        if i > count || j > count {
-            return None;
-        }
-        self.below.ahead(count - i, count - j)
+        self.below.extension(side.turned(), count - i, count - j)
     }
 }

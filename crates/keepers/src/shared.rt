@@ -1,6 +1,6 @@
 // A shared reference to a keeper is a keeper, so that layers can stand on one that is borrowed.
 
-use crate::Keeper;
+use crate::{Keeper, Side};
 
 impl<K: Keeper> Keeper for &K {
     ghost codes = { λ r. K.Keeper.codes r.now };
@@ -15,11 +15,7 @@ impl<K: Keeper> Keeper for &K {
         (**self).code_at(place)
     }
 
-    fn ahead(&self, i: usize, j: usize) -> Option<usize> {
-        (**self).ahead(i, j)
-    }
-
-    fn behind(&self, i: usize, j: usize) -> Option<usize> {
-        (**self).behind(i, j)
+    fn extension(&self, side: Side, i: usize, j: usize) -> Option<usize> {
+        (**self).extension(side, i, j)
     }
 }

@@ -1,13 +1,15 @@
 -- A loop that counts what agrees, several codes at a time. Assumes nothing.
-use Rattle.std.proofs.Common.{◌≡◌, ℕ, zero, suc, ◌+◌, ◌-◌, ◌<◌, ◌≤◌, max, List, reverse, length, get_or, take, drop, sym, ap, ◌∙◌, subst, arith}
+use Rattle.std.proofs.Common.{◌≡◌, ℕ, zero, suc, ◌+◌, ◌-◌, ◌<◌, ◌≤◌, max, List, reverse, length, get_or, take, drop, Some, sym, ap, ap₂, ◌∙◌, subst, arith}
 use Rattle.periodicity.specs.Agreement.{common}
-use Rattle.periodicity.proofs.Agreements.{count_ahead_more, count_ahead_stops, drop_reverse}
+use Rattle.periodicity.proofs.Agreements.{behind_within, count_ahead_more, count_ahead_stops, drop_reverse}
 use Rattle.rows.specs.declared.Row.{Row}
 use Rattle.rows.specs.Strips.{strip}
-use Rattle.shelf_strip.specs.declared.cursor.Side.{Side}
-use Rattle.shelf_strip.specs.declared.cursor.Cursor.{Cursor}
+use Rattle.keepers.specs.declared.side.Side.{Side}
+use Rattle.keepers.specs.declared.side.Side.TheVariants.{Behind}
+use Rattle.keepers.specs.Sides.{extension_of, GreatestOn}
+use Rattle.keepers.proofs.Greatests.{greatest_on}
 use Rattle.shelf_strip.specs.Sides.{seen}
-use Rattle.shelf_strip.specs.Cursors.{Stands, Steps}
+use Rattle.shelf_strip.specs.Cursors.{at_place, Stands, Steps}
 use Rattle.shelf_strip.proofs.CursorFacts.{under_plain}
 use Rattle.shelf_strip.proofs.SeenFacts.{length_seen}
 
@@ -28,10 +30,6 @@ count_many xs i j t n (suc r) counted room each =
     ap (λ p. get_or xs p 0) left ∙ each (suc k) (omega arith) ∙ ap (λ p. get_or xs p 0) (sym right)) in
     let e : n + 1 + r ≡ n + suc r = omega arith in
     subst (Counted xs i j t) e rest
-
--- a cursor at a place of a number's strip that reaches its end
-abbrev pub at_place : ℕ → ℕ → ℕ → Cursor
-at_place number long place = record { number = number; place = place; reach = long - place }
 
 module _ (side : Side) (rows : List Row) (number long : ℕ) (is : long ≡ length (strip rows number)) where
   same_long : long ≡ length (seen side rows number)
@@ -66,3 +64,13 @@ pub back_from : (xs : List ℕ) (long i : ℕ) → long ≡ length xs → i ≤ 
 back_from xs long i is inside =
     let twice : length xs - (length xs - i) ≡ i = omega arith in
     ap (λ l. drop (l - i) (reverse xs)) is ∙ drop_reverse (length xs - i) xs (omega arith) ∙ ap (λ k. reverse (take k xs)) twice
+
+-- so what agrees from two places on, seen from the end, is what agrees behind them
+pub behind_seen : (side : Side) (xs : List ℕ) (long i j n : ℕ) → side ≡ Behind → long ≡ length xs → i ≤ length xs → j ≤ length xs → n ≡ common (drop (long - i) (reverse xs)) (drop (long - j) (reverse xs)) → Some n ≡ extension_of side xs i j
+behind_seen side xs long i j n is same i_in j_in counted =
+    let both = ap₂ common (back_from xs long i same i_in) (back_from xs long j same j_in) in
+    ap Some (counted ∙ both) ∙ sym (behind_within xs i j i_in j_in) ∙ ap (λ s. extension_of s xs i j) (sym is)
+
+pub behind_seen_greatest : (side : Side) (xs : List ℕ) (long i j n : ℕ) → side ≡ Behind → long ≡ length xs → i ≤ length xs → j ≤ length xs → n ≡ common (drop (long - i) (reverse xs)) (drop (long - j) (reverse xs)) → GreatestOn side xs i j (Some n)
+behind_seen_greatest side xs long i j n is same i_in j_in counted =
+    greatest_on side xs i j (Some n) (behind_seen side xs long i j n is same i_in j_in counted)

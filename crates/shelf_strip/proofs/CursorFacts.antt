@@ -14,7 +14,7 @@ use Rattle.rows.specs.Filing.{row_of}
 use Rattle.rows.specs.Lawful.{Lawful, parts_below}
 use Rattle.rows.specs.Strips.{strip}
 use Rattle.rows.proofs.LawfulFacts.{row_lawful}
-use Rattle.shelf_strip.specs.declared.cursor.Side.{Side}
+use Rattle.keepers.specs.declared.side.Side.{Side}
 use Rattle.shelf_strip.specs.declared.cursor.Cursor.{Cursor}
 use Rattle.shelf_strip.specs.Sides.{seen, first_of, second_of}
 use Rattle.shelf_strip.specs.Cursors.{in_pair, in_copies, code_under, Stands, GoesOn}

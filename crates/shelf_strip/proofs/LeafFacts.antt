@@ -14,8 +14,8 @@ use Rattle.rows.specs.Lawful.{Lawful, parts_below}
 use Rattle.rows.specs.Strips.{times, strip}
 use Rattle.rows.proofs.LawfulFacts.{row_lawful, lawful_parts}
 use Rattle.rows.proofs.StripFacts.{shape_strip, strip_none, strip_of_row}
-use Rattle.shelf_strip.specs.declared.cursor.Side.{Side}
-use Rattle.shelf_strip.specs.declared.cursor.Side.TheVariants.{Ahead, Behind}
+use Rattle.keepers.specs.declared.side.Side.{Side}
+use Rattle.keepers.specs.declared.side.Side.TheVariants.{Ahead, Behind}
 use Rattle.shelf_strip.specs.Sides.{seen}
 use Rattle.shelf_strip.proofs.SeenFacts.{pair_below, repeat_below}
 

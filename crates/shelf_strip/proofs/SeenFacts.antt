@@ -11,8 +11,8 @@ use Rattle.rows.specs.Lawful.{Lawful, parts_below}
 use Rattle.rows.specs.Strips.{times, strip}
 use Rattle.rows.proofs.LawfulFacts.{lawful_parts}
 use Rattle.rows.proofs.StripFacts.{shape_strip, strip_of_row}
-use Rattle.shelf_strip.specs.declared.cursor.Side.{Side}
-use Rattle.shelf_strip.specs.declared.cursor.Side.TheVariants.{Ahead, Behind}
+use Rattle.keepers.specs.declared.side.Side.{Side}
+use Rattle.keepers.specs.declared.side.Side.TheVariants.{Ahead, Behind}
 use Rattle.shelf_strip.specs.Sides.{seen, first_of, second_of}
 
 pub length_seen : (side : Side) (rows : List Row) (n : ℕ) → length (seen side rows n) ≡ length (strip rows n)

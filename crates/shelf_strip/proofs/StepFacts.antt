@@ -7,7 +7,7 @@ use Rattle.rows.specs.declared.Row.{Row}
 use Rattle.rows.specs.Filing.{find, row_of}
 use Rattle.rows.specs.Lawful.{Lawful}
 use Rattle.rows.proofs.LawfulFacts.{row_lawful}
-use Rattle.shelf_strip.specs.declared.cursor.Side.{Side}
+use Rattle.keepers.specs.declared.side.Side.{Side}
 use Rattle.shelf_strip.specs.declared.cursor.Cursor.{Cursor}
 use Rattle.shelf_strip.specs.Sides.{seen}
 use Rattle.shelf_strip.specs.Cursors.{same_stand, code_under, Stands, Steps}

@@ -3,13 +3,17 @@ use Rattle.std.specs.Prelude.{◌≡◌, ℕ, ◌+◌, ◌-◌, ◌%◌, ◌<◌
 use Rattle.rows.specs.declared.Shape.TheVariants.{Leaf}
 use Rattle.rows.specs.declared.Row.{Row}
 use Rattle.rows.specs.Filing.{row_of}
-use Rattle.shelf_strip.specs.declared.cursor.Side.{Side}
+use Rattle.keepers.specs.declared.side.Side.{Side}
 use Rattle.shelf_strip.specs.declared.cursor.Cursor.{Cursor}
 use Rattle.shelf_strip.specs.Sides.{seen}
 
 -- whether two cursors stand at the same place of one number's strip
 abbrev pub same_stand : Cursor → Cursor → Bool
 same_stand a b = a.number == b.number && a.place == b.place
+
+-- at a place of a number's strip, which has so many codes; it reaches the strip's end
+abbrev pub at_place : ℕ → ℕ → ℕ → Cursor
+at_place number long place = record { number = number; place = place; reach = long - place }
 
 -- a place of a pair, as a place of the first part or of the second
 abbrev pub in_pair : ℕ → ℕ → ℕ → ℕ → ℕ → Cursor

@@ -2,8 +2,8 @@
 use Rattle.std.specs.Prelude.{ℕ, List, reverse}
 use Rattle.rows.specs.declared.Row.{Row}
 use Rattle.rows.specs.Strips.{strip}
-use Rattle.shelf_strip.specs.declared.cursor.Side.{Side}
-use Rattle.shelf_strip.specs.declared.cursor.Side.TheVariants.{Ahead, Behind}
+use Rattle.keepers.specs.declared.side.Side.{Side}
+use Rattle.keepers.specs.declared.side.Side.TheVariants.{Ahead, Behind}
 
 -- from the start on, or from the end back
 abbrev pub seen : Side → List Row → ℕ → List ℕ

@@ -1,21 +1,13 @@
 // Cursors: places in the strips of rows, which go down from a row to the part under them.
 ghost use Rattle.std.specs.Prelude.{◌≡◌, ◌+◌, ◌<◌, ◌≤◌};
 ghost use Rattle.shelf.specs.Contents.{rows_on};
-ghost use Rattle.shelf_strip.specs.Cursors.{Descends, Stands, Steps, in_copies, in_pair, same_stand};
+ghost use Rattle.shelf_strip.specs.Cursors.{Descends, Stands, Steps, at_place, in_copies, in_pair, same_stand};
 ghost use Rattle.shelf_strip.specs.Sides.{first_of, second_of};
 
 use crate::length::strip_length;
+use keepers::Side;
 use rows::Shape;
 use shelf::shelf::Shelf;
-
-// From which end places are counted.
-#[derive(Clone, Copy)]
-pub(crate) enum Side {
-    // From the start on.
-    Ahead,
-    // From the end back.
-    Behind,
-}
 
 // A place in copies of a number's strip that stand side by side, seen from one side: `place` codes of the
 // first copy are passed, and the next `reach` codes, at least the rest of that copy, belong to the copies.
@@ -26,29 +18,29 @@ pub(crate) struct Cursor {
     pub(crate) reach: usize,
 }
 
-impl Side {
-    // The part of a pair that comes first.
-    fn first(self, left: u16, right: u16) -> u16
-        ensures { result ≡ first_of self left right }
-    {
-        match self {
-            Side::Ahead => left,
-            Side::Behind => right,
-        }
-    }
-
-    // The part that comes second.
-    fn second(self, left: u16, right: u16) -> u16
-        ensures { result ≡ second_of self left right }
-    {
-        match self {
-            Side::Ahead => right,
-            Side::Behind => left,
-        }
+// The parts of a pair, the one that comes first from that side and then the other.
+fn in_order(side: Side, left: u16, right: u16) -> (u16, u16)
+    ensures { result ≡ (first_of side left right, second_of side left right) }
+{
+    match side {
+        Side::Ahead => (left, right),
+        Side::Behind => (right, left),
     }
 }
 
 impl Cursor {
+    // At a place of one number's strip, which has so many codes.
+    pub(crate) fn at(number: u16, len: usize, place: usize) -> Cursor
+        requires { place ≤ len }
+        ensures { result ≡ at_place number len place }
+    {
+        Cursor {
+            number,
+            place,
+            reach: len - place,
+        }
+    }
+
     // Whether both stand at the same place of one number's strip.
     fn stands_with(self, other: Cursor) -> bool
         ensures { result ≡ same_stand self other }
@@ -96,53 +88,61 @@ fn in_copies(part: u16, part_length: usize, whole_length: usize, place: usize) -
     }
 }
 
-// The cursor, moved down into the part under its place; none for a leaf.
-fn descend(shelf: &Shelf, side: Side, cursor: Cursor) -> Option<Cursor>
-    requires { Stands side (rows_on shelf.now) cursor }
-    ensures { Descends side (rows_on shelf.now) cursor result }
-{
-    let row = shelf.row(cursor.number)?;
-    match row.shape {
-        Shape::Leaf { .. } => None,
-        Shape::Pair { left, right } => {
-            let first = side.first(left, right);
-            let second = side.second(left, right);
-            Some(in_pair(
-                first,
-                strip_length(shelf, first),
-                second,
-                strip_length(shelf, second),
-                cursor.place,
-            ))
-        }
-        Shape::Repeat { part, .. } => Some(in_copies(
-            part,
-            strip_length(shelf, part),
-            strip_length(shelf, cursor.number),
-            cursor.place,
-        )),
-    }
+// A shelf, and the side from which places are counted in its strips.
+#[derive(Clone, Copy)]
+pub(crate) struct View<'a> {
+    pub(crate) shelf: &'a Shelf,
+    pub(crate) side: Side,
 }
 
-// How many codes from two cursors on are known to agree at once: none only where the first ones differ. The
-// cursor with the greater number goes down, until both stand at the same place of one number's strip.
-pub(crate) fn step(shelf: &Shelf, side: Side, left: Cursor, right: Cursor) -> usize
-    requires left { Stands side (rows_on shelf.now) left }
-    requires right { Stands side (rows_on shelf.now) right }
-    ensures { Steps side (rows_on shelf.now) left right result }
-{
-    if left.stands_with(right) {
-        return left.reach.min(right.reach);
-    }
-    if left.number < right.number {
-        match descend(shelf, side, right) {
-            Some(part) => step(shelf, side, left, part),
-            None => 0,
+impl View<'_> {
+    // The cursor, moved down into the part under its place; none for a leaf.
+    fn descend(&self, cursor: Cursor) -> Option<Cursor>
+        requires { Stands self.now.side (rows_on self.now.shelf.now) cursor }
+        ensures { Descends self.now.side (rows_on self.now.shelf.now) cursor result }
+    {
+        let row = self.shelf.row(cursor.number)?;
+        match row.shape {
+            Shape::Leaf { .. } => None,
+            Shape::Pair { left, right } => {
+                let (first, second) = in_order(self.side, left, right);
+                Some(in_pair(
+                    first,
+                    strip_length(self.shelf, first),
+                    second,
+                    strip_length(self.shelf, second),
+                    cursor.place,
+                ))
+            }
+            Shape::Repeat { part, .. } => Some(in_copies(
+                part,
+                strip_length(self.shelf, part),
+                strip_length(self.shelf, cursor.number),
+                cursor.place,
+            )),
         }
-    } else {
-        match descend(shelf, side, left) {
-            Some(part) => step(shelf, side, part, right),
-            None => 0,
+    }
+
+    // How many codes from two cursors on are known to agree at once: none only where the first ones differ. The
+    // cursor with the greater number goes down, until both stand at the same place of one number's strip.
+    pub(crate) fn step(&self, left: Cursor, right: Cursor) -> usize
+        requires left { Stands self.now.side (rows_on self.now.shelf.now) left }
+        requires right { Stands self.now.side (rows_on self.now.shelf.now) right }
+        ensures { Steps self.now.side (rows_on self.now.shelf.now) left right result }
+    {
+        if left.stands_with(right) {
+            return left.reach.min(right.reach);
+        }
+        if left.number < right.number {
+            match self.descend(right) {
+                Some(part) => self.step(left, part),
+                None => 0,
+            }
+        } else {
+            match self.descend(left) {
+                Some(part) => self.step(part, right),
+                None => 0,
+            }
         }
     }
 }

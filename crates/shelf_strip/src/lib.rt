@@ -2,7 +2,6 @@
 // row to part, and what one row says of both places is skipped at once.
 #![tactic(auto)]
 
-mod agreement;
 mod cursor;
 mod length;
 mod strip;

@@ -1,12 +1,14 @@
 // A strip on a shelf.
-ghost use Rattle.std.specs.Prelude.{◌≡◌};
+ghost use Rattle.std.specs.Prelude.{◌≡◌, ◌≤◌, length, drop};
+ghost use Rattle.periodicity.specs.Agreement.{common};
 ghost use Rattle.keepers.specs.Shortness.{ShortList};
 ghost use Rattle.rows.specs.Strips.{strip};
 ghost use Rattle.shelf.specs.Contents.{rows_on};
+ghost use Rattle.shelf_strip.specs.Sides.{seen};
 
-use crate::agreement::{agreeing_ahead, agreeing_behind};
+use crate::cursor::{Cursor, View};
 use crate::length::strip_length;
-use keepers::Keeper;
+use keepers::{Keeper, Side};
 use shelf::shelf::Shelf;
 
 // The shelf, shared, and a number. A number that is not known stands for the empty strip.
@@ -27,6 +29,33 @@ impl<'a> ShelfStrip<'a> {
     }
 }
 
+impl ShelfStrip<'_> {
+    // How many codes agree from two places on, counted from one side.
+    fn agreeing(&self, side: Side, i: usize, j: usize) -> usize
+        requires first { i ≤ length (strip (rows_on self.now.shelf.now) self.now.number) }
+        requires second { j ≤ length (strip (rows_on self.now.shelf.now) self.now.number) }
+        ensures { result ≡ common (drop i (seen side (rows_on self.now.shelf.now) self.now.number)) (drop j (seen side (rows_on self.now.shelf.now) self.now.number)) }
+    {
+        let len = self.len();
+        let room = len - i.max(j);
+        let view = View {
+            shelf: self.shelf,
+            side,
+        };
+        let mut agreed = 0;
+        while agreed < room {
+            let left = Cursor::at(self.number, len, i + agreed);
+            let right = Cursor::at(self.number, len, j + agreed);
+            let more = view.step(left, right);
+            if more == 0 {
+                return agreed;
+            }
+            agreed += more;
+        }
+        agreed
+    }
+}
+
 impl Keeper for ShelfStrip<'_> {
     ghost codes = { λ kept. strip (rows_on kept.shelf.now) kept.number };
 
@@ -40,19 +69,15 @@ impl Keeper for ShelfStrip<'_> {
         self.shelf.code_at(self.number, place)
     }
 
-    fn ahead(&self, i: usize, j: usize) -> Option<usize> {
-        let length = self.len();
-        if i > length || j > length {
+    #[tactic(auto, using(keepers::proofs::Greatests::greatest_on, crate::proofs::CountFacts::behind_seen, crate::proofs::CountFacts::behind_seen_greatest))]
+    fn extension(&self, side: Side, i: usize, j: usize) -> Option<usize> {
+        let len = self.len();
+        if i > len || j > len {
             return None;
         }
-        Some(agreeing_ahead(self.shelf, self.number, i, j))
-    }
-
-    fn behind(&self, i: usize, j: usize) -> Option<usize> {
-        let length = self.len();
-        if i > length || j > length {
-            return None;
-        }
-        Some(agreeing_behind(self.shelf, self.number, i, j))
+        Some(match side {
+            Side::Ahead => self.agreeing(Side::Ahead, i, j),
+            Side::Behind => self.agreeing(Side::Behind, len - i, len - j),
+        })
     }
 }

@@ -1,23 +1,16 @@
--- The loop ends at the first two codes that differ, or where no more are left.
-use Rattle.std.proofs.Common.{◌≡◌, ◌-◌, length, drop, arith}
-use Rattle.periodicity.specs.Agreement.{common}
-use Rattle.periodicity.proofs.Agreements.{count_ahead_more, count_ahead_stops, count_ahead_ends}
-use Rattle.keepers.proofs.Greatests.{count_greatest}
+-- The chain counts the pairs that agree before the first that differ.
+use Rattle.std.proofs.Common.{rules, tests, ◌∙◌}
+use Rattle.std.proofs.lemmas.Iterator.{YieldsList-from_slice, YieldsList-from_zip}
+use Rattle.std.proofs.lemmas.Iterator.Consumers.{count_from_yields_List}
+use Rattle.std.proofs.lemmas.Iterator.Search.{YieldsList-from_take_while}
+use Rattle.keepers.proofs.Chains.{both, pairs_taken}
 use Rattle.keepers.proofs.loose.agreeing_ahead.Goals as goal
-
-pub loop-n-preserved : goal.loop-n-preserved
-loop-n-preserved c =
-    count_ahead_more c.args.strip.now c.args.i c.args.j c.loop-n.n _ c.loop-n.invariant (omega arith) c.if-strip-i.false
-
-pub returns-then-strip-i : goal.returns-then-strip-i
-returns-then-strip-i c =
-    count_greatest _ _ c.loop-n.n
-    (count_ahead_stops c.args.strip.now c.args.i c.args.j c.loop-n.n _ c.loop-n.invariant (omega arith) c.if-strip-i.true)
 
 pub returns : goal.returns
 returns c =
-    let left = drop c.args.i c.args.strip.now in
-    let right = drop c.args.j c.args.strip.now in
-    let counted = count_ahead_ends c.args.strip.now c.args.i c.args.j c.loop-n.n (common left right) c.loop-n.invariant (omega arith) in
-    let all : length c.args.strip.now - c.max.result ≡ common left right = omega arith in
-    count_greatest left right (length c.args.strip.now - c.max.result) all
+    let left = c.args.left.now in
+    let right = c.args.right.now in
+    count_from_yields_List c.take_while.result c.count.result c.count.ensures.ran
+    (YieldsList-from_take_while _ both (YieldsList-from_zip (YieldsList-from_slice left cc) (YieldsList-from_slice right cc))
+    c.take_while.ensures.closure c.take_while.ensures.done (λ x b q k. search (rules, tests)))
+    ∙ pairs_taken left right

@@ -2,6 +2,7 @@
 use Rattle.std.proofs.Common.{reverse, sym, ◌∙◌}
 use lib.ListN.{length-reverse}
 use Rattle.periodicity.proofs.Agreements.{code_reverse, ahead_reverse, behind_reverse}
+use Rattle.keepers.specs.declared.side.Side.TheVariants.{Ahead, Behind}
 use Rattle.keepers.proofs.Greatests.{extensions_greatest}
 use Rattle.keepers.proofs.reversed.Reversed.count.Goals as goal
 
@@ -13,7 +14,6 @@ returns g c =
     record {
       long = long ∙ sym (length-reverse below);
       code = code_reverse below many long;
-      ahead = ahead_reverse below many long;
-      behind = behind_reverse below many long;
+      extension = elim [ Ahead ↦ ahead_reverse below many long | Behind ↦ behind_reverse below many long ];
       greatest = extensions_greatest (reverse below);
     }
