@@ -6,7 +6,7 @@ mod pattern;
 
 use anyhow::anyhow;
 use cells::Glyph;
-use keepers::Keeper;
+use keepers::{Keeper, Side};
 use pattern::Pattern;
 use shelf::shelf::Shelf;
 use shelf_strip::ShelfStrip;
@@ -14,20 +14,11 @@ use shelf_strip::ShelfStrip;
 // The places that every other place is compared with; the same, counted from the end, behind.
 const PLACES: [usize; 3] = [0, 7, 4_096];
 
-fn total_ahead(strip: &ShelfStrip, i: usize) -> usize {
-    let mut total = 0usize;
-    for j in 0..=strip.len() {
-        total = total.saturating_add(strip.ahead(i, j).unwrap_or(0));
-    }
-    total
-}
-
-fn total_behind(strip: &ShelfStrip, i: usize) -> usize {
-    let mut total = 0usize;
-    for j in 0..=strip.len() {
-        total = total.saturating_add(strip.behind(i, j).unwrap_or(0));
-    }
-    total
+// All that agrees on a side of one place and every other.
+fn total(strip: &ShelfStrip, side: Side, i: usize) -> usize {
+    (0..=strip.len())
+        .map(|j| strip.extension(side, i, j).unwrap_or(0))
+        .fold(0, |total: usize, agreeing| total.saturating_add(agreeing))
 }
 
 fn run_pattern(rt: &HostRuntime, pattern: Pattern) -> anyhow::Result<()> {
@@ -42,18 +33,18 @@ fn run_pattern(rt: &HostRuntime, pattern: Pattern) -> anyhow::Result<()> {
     let length = strip.len();
     println!(rt; "{pattern}: {length} cells")?;
     for place in PLACES {
-        let ahead = total_ahead(&strip, place);
-        let behind = total_behind(&strip, length.saturating_sub(place));
+        let ahead = total(&strip, Side::Ahead, place);
+        let behind = total(&strip, Side::Behind, length.saturating_sub(place));
         println!(rt; "from {place}: ahead {ahead}, behind {behind}")?;
     }
     Ok(())
 }
 
 fn run(rt: &HostRuntime) -> anyhow::Result<()> {
-    run_pattern(rt, Pattern::Same)?;
-    run_pattern(rt, Pattern::Weeks)?;
-    run_pattern(rt, Pattern::Slope)?;
-    run_pattern(rt, Pattern::Parities)
+    for pattern in Pattern::ALL {
+        run_pattern(rt, pattern)?;
+    }
+    Ok(())
 }
 
 fn main(rt: HostRuntime) -> anyhow::Result<()> {

@@ -15,14 +15,23 @@ pub(crate) enum Pattern {
     Parities,
 }
 
+impl Pattern {
+    pub(crate) const ALL: [Pattern; 4] = [
+        Pattern::Same,
+        Pattern::Weeks,
+        Pattern::Slope,
+        Pattern::Parities,
+    ];
+}
+
 impl fmt::Display for Pattern {
     fn fmt<W: fmt::Write>(&self, f: &mut fmt::Formatter<W>) -> fmt::Result {
-        match self {
-            Pattern::Same => write!(f, "same"),
-            Pattern::Weeks => write!(f, "weeks"),
-            Pattern::Slope => write!(f, "slope"),
-            Pattern::Parities => write!(f, "parities"),
-        }
+        f.write_str(match self {
+            Pattern::Same => "same",
+            Pattern::Weeks => "weeks",
+            Pattern::Slope => "slope",
+            Pattern::Parities => "parities",
+        })
     }
 }
 
@@ -33,32 +42,19 @@ fn height(place: u32) -> u64 {
 
 impl Pattern {
     fn cell(self, place: u16) -> Glyph {
-        match self {
-            Pattern::Same => Glyph(0),
-            Pattern::Weeks => Glyph(place % 7),
+        Glyph(match self {
+            Pattern::Same => 0,
+            Pattern::Weeks => place % 7,
             Pattern::Slope => {
-                if height(u32::from(place)) < height(u32::from(place) + 1) {
-                    Glyph(1)
-                } else {
-                    Glyph(0)
-                }
+                let place = u32::from(place);
+                u16::from(height(place) < height(place + 1))
             }
-            Pattern::Parities => {
-                if place.count_ones() % 2 == 1 {
-                    Glyph(1)
-                } else {
-                    Glyph(0)
-                }
-            }
-        }
+            Pattern::Parities => u16::from(place.count_ones() % 2 == 1),
+        })
     }
 
     // The first 65,535 cells.
     pub(crate) fn cells(self, heap: Global) -> Result<Vec<Glyph>, AllocError> {
-        let mut cells = Vec::new(heap);
-        for place in 0..65_535u16 {
-            cells.push(self.cell(place))?;
-        }
-        Ok(cells)
+        (0..65_535).map(|place| self.cell(place)).collect(heap)
     }
 }
