@@ -12,10 +12,7 @@ pub loop-rest-init : goal.loop-rest-init
 unfolding entries
 loop-rest-init c = (
   omega arith,
-  λ i. c.new-text.ensures.bytes i ++ flat_map line_bytes (told_from (c.new-desk.ensures.standing i) (entries_from 0 0 c.args.job.now)),
-  c.new-desk.ensures.glyphs,
-  refl,
-)
+  λ i. c.new-text.ensures.bytes i ++ flat_map line_bytes (told_from (c.new-desk.ensures i) (entries_from 0 0 c.args.job.now)))
 
 pub returns-in_default : goal.returns-in_default
 returns-in_default c =
@@ -36,11 +33,8 @@ loop-rest-preserved c =
     let size_is : length c.split_at.result.0.now ≡ size_of c.in-Some.command = c.split_at.ensures.front_len ∙ c.size.ensures in (
       omega (arith, c.split_at.ensures.back_len, c.split_at.ensures.front_len, c.loop-rest.invariant.0),
       turn_more (string_bytes c.loop-rest.text) (string_bytes c.print-in-loop-rest.new.text) (standing_of c.loop-rest.desk) (standing_of c.perform.new.self) c.loop-rest.place (length c.split_at.result.0.now)
-          c.loop-rest.rest.now c.split_at.result.1.now (flat_map line_bytes (told_from nothing_yet (entries c.args.job.now))) c.in-Some.command (told_lines c.in_ok-line.line) some c.in-Some.ensures c.in_ok-line.ensures.done
-          c.in_ok-print-2.ensures size_is (c.split_at.ensures.back ∙ ap (λ n. drop n c.loop-rest.rest.now) c.size.ensures) c.loop-rest.invariant.1,
-      c.in_ok-line.ensures.glyphs,
-      search rules,
-    )
+          c.loop-rest.rest.now c.split_at.result.1.now (flat_map line_bytes (told_from nothing_yet (entries c.args.job.now))) c.in-Some.command (told_lines c.in_ok-line.line) some c.in-Some.ensures c.in_ok-line.ensures
+          c.in_ok-print-2.ensures size_is (c.split_at.ensures.back ∙ ap (λ n. drop n c.loop-rest.rest.now) c.size.ensures) c.loop-rest.invariant.1)
 
 pub returns : goal.returns
 returns c =
