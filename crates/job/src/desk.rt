@@ -1,9 +1,6 @@
 // The desk at which a job is run: a glyph shelf, and the tray.
 
 ghost use Rattle.std.specs.Prelude.{◌≡◌, [], ◌∷◌, IfOk, OnOk};
-ghost use Rattle.questions.specs.Outcomes.{outcome, places_outcome};
-ghost use Rattle.rows.specs.Strips.{strip};
-ghost use Rattle.shelf.specs.Contents.{rows_on};
 ghost use Rattle.job.specs.Commands.{command_of};
 ghost use Rattle.job.specs.Runs.{nothing_yet, fits as fits_on};
 ghost use Rattle.job.specs.Lines.{told_in};
@@ -12,8 +9,8 @@ use crate::command::Command;
 use crate::line::Line;
 use cells::Glyph;
 use keepers::Keeper;
-use periodicity::{Fragment, Progression};
-use questions::{Refusal, places};
+use periodicity::Fragment;
+use questions::places;
 use shelf::shelf::Shelf;
 use shelf_strip::ShelfStrip;
 use std::alloc::{AllocError, Global};
@@ -29,18 +26,6 @@ pub(crate) struct Desk {
     shelf: Shelf,
     tray: Vec<Glyph>,
     ghost of_glyphs: { shelf.kind ≡ 1 },
-}
-
-// The places of a pattern in a field of a number's strip. An unknown number stands for the empty strip.
-fn places_on(
-    shelf: &Shelf,
-    number: u16,
-    pattern: Fragment,
-    field: Fragment,
-) -> Result<Option<Progression>, Refusal>
-    ensures { outcome result ≡ places_outcome (strip (rows_on shelf.now) number) pattern field }
-{
-    places(&ShelfStrip::new(shelf, number), pattern, field)
 }
 
 impl Desk {
@@ -70,11 +55,7 @@ impl Desk {
     pub(crate) fn next(&self, bytes: &[u8]) -> Option<Command>
         ensures { result ≡ doable self.now.tray.items (command_of bytes.now) }
     {
-        let command = Command::read(bytes)?;
-        if !self.fits(command) {
-            return None;
-        }
-        Some(command)
+        Command::read(bytes).filter(|command| self.fits(*command))
     }
 
     // Puts a glyph on the tray.
@@ -108,11 +89,11 @@ impl Desk {
         Line::Cut(self.shelf.cut(number, part.start, part.length, work))
     }
 
-    // Asks for the places of a pattern in a field of a number's strip.
+    // Asks for the places of a pattern in a field of a number's strip. An unknown number stands for the empty strip.
     fn find(&self, number: u16, pattern: Fragment, field: Fragment) -> Line
         ensures { Does (standing_of self.now) (Command.Places number pattern field) (told_in result ∷ []) (standing_of self.now) }
     {
-        Line::Places(places_on(&self.shelf, number, pattern, field))
+        Line::Places(places(&ShelfStrip::new(&self.shelf, number), pattern, field))
     }
 
     // Does a command: the line that it prints, if it prints one.
