@@ -1,15 +1,16 @@
 -- Commands are done one after the other, from place to place. Assumes nothing.
-use Rattle.std.proofs.Common.{◌≡◌, ℕ, zero, suc, ◌+◌, ◌-◌, ◌<◌, ◌≤◌, Bool, true, false, cond, eqb, leb, List, [], ◌∷◌, ◌++◌, length, drop, Some, None, Option, sym, refl, ap, ◌∙◌, subst, append_assoc, add-zero, arith}
+use Rattle.std.proofs.Common.{◌≡◌, ℕ, zero, suc, ◌+◌, ◌-◌, ◌<◌, ◌≤◌, Bool, true, false, cond, eqb, leb, List, [], ◌∷◌, ◌++◌, length, take, drop, Some, None, Option, sym, refl, ap, ◌∙◌, subst, append_assoc, add-zero, arith}
 use Rattle.std.proofs.lemmas.Grind.{flat_map-append}
-use Rattle.std.proofs.lemmas.List.{append-nil, length-drop}
+use Rattle.std.proofs.lemmas.List.{append-nil, length-drop, take_rest}
 use Rattle.std.proofs.lemmas.Bool.{leb-true, le-leb, lt-leb}
 use Rattle.std.specs.List.{flat_map}
 use Rattle.cells.specs.declared.glyph.Glyph.{Glyph}
 use Rattle.job.specs.declared.command.Command.{Command}
 use Rattle.job.specs.declared.command.Command.TheVariants.{Glyph as put, Take, Join, Cut, Places}
 use Rattle.job.specs.Commands.{size_of, whole, said_by, command_of, operand, fragment, Entry, entry_before, entries_from, entries}
-use Rattle.job.specs.Desks.{doable, Does}
-use Rattle.job.specs.Lines.{line_bytes, printed_by}
+use Rattle.job.specs.Desks.{told_lines, doable, Does}
+use Rattle.job.specs.declared.line.Line.{Line}
+use Rattle.job.specs.Lines.{told_in, line_bytes, printed_by}
 use Rattle.job.specs.Runs.{most_bytes, Standing, nothing_yet, Told, stopped, too_long, fits, told_by, after, told_from, told_of}
 
 -- a command has at least its letter
@@ -51,12 +52,12 @@ command_within (b ∷ bs) = said_within b (b ∷ bs)
 
 -- a command that can be done was read
 doable_read : (tray : List Glyph) (o : Option Command) (command : Command) → doable tray o ≡ Some command → (o ≡ Some command) × (fits tray command ≡ true)
-doable_read tray None command is = let z : ◌≡◌ {A = ℕ} 0 1 = cc in absurd (omega arith)
+doable_read tray None command is = cc
 doable_read tray (Some c) command is = by (fits tray c) refl is
   where
     by : (b : Bool) → fits tray c ≡ b → cond b (Some c) None ≡ Some command → (◌≡◌ {A = Option Command} (Some c) (Some command)) × (fits tray command ≡ true)
     by true can same = let e : c ≡ command = cc in (ap Some e, subst (λ x. fits tray x ≡ true) e can)
-    by false can same = let z : ◌≡◌ {A = ℕ} 0 1 = cc in absurd (omega arith)
+    by false can same = cc
 
 pub size_within : (tray : List Glyph) (bytes : List ℕ) (command : Command) → Some command ≡ doable tray (command_of bytes) → size_of command ≤ length bytes
 size_within tray bytes command is = subst (Within bytes) (doable_read tray (command_of bytes) command (sym is)).0 (command_within bytes)
@@ -73,7 +74,7 @@ stop_before s place None more is = refl
 stop_before s place (Some c) more is = by (fits s.tray c) is
   where
     by : (b : Bool) → cond b (Some c) None ≡ None → cond b (told_by s c ++ told_from (after s c) (more (size_of c - 1))) (stopped place ∷ []) ≡ stopped place ∷ []
-    by true same = let z : ◌≡◌ {A = ℕ} 0 1 = cc in absurd (omega arith)
+    by true same = cc
     by false same = refl
 
 told_stop : (s : Standing) (place : ℕ) (rest : List ℕ) → 0 < length rest → doable s.tray (command_of rest) ≡ None → told_from s (entries_from 0 place rest) ≡ stopped place ∷ []
@@ -117,18 +118,26 @@ prints_start text s job none new = record {
     place : length job - length job ≡ 0
     place = omega arith
 
+-- the bytes of a line that was printed, and of none
+pub prints_some : (text text' : List ℕ) (printed : Option Line) (line : Line) → printed ≡ Some line → text' ≡ text ++ line_bytes (told_in line) → text' ≡ text ++ flat_map line_bytes (told_lines printed)
+prints_some text text' printed line is text_is = text_is ∙ ap (λ l. text ++ l) (sym (append-nil (line_bytes (told_in line)))) ∙ ap (λ o. text ++ flat_map line_bytes (told_lines o)) (sym is)
+
+pub prints_none : (text : List ℕ) (printed : Option Line) → printed ≡ None → text ≡ text ++ flat_map line_bytes (told_lines printed)
+prints_none text printed is = sym (append-nil text) ∙ ap (λ o. text ++ flat_map line_bytes (told_lines o)) (sym is)
+
 -- one turn, with what the code has of it
-pub prints_more : (text text' : List ℕ) (s s' : Standing) (job rest : List ℕ) (command : Command) (tells : List Told) → PrintsAll text s job rest → Some command ≡ doable s.tray (command_of rest) → Does s command tells s'
-    → text' ≡ text ++ flat_map line_bytes tells → PrintsAll text' s' job (drop (size_of command) rest)
-prints_more text text' s s' job rest command tells all is done text_is = record {
-  within = omega (arith, shorter, all.within);
-  prints =
-    (λ i. (text_is ∙ ap (λ ts. text ++ flat_map line_bytes ts) done.tells_it) i ++ flat_map line_bytes (told_from (done.leaves i) (entries_from 0 (moved i) left)))
-    ∙ append_assoc text (flat_map line_bytes (told_by s command)) (flat_map line_bytes later)
-    ∙ ap (λ l. text ++ l) (sym (flat_map-append line_bytes (told_by s command) later))
-    ∙ ap (λ ts. text ++ flat_map line_bytes ts) (sym (told_more s place rest command (sym is)))
-    ∙ all.prints;
-}
+pub prints_more : (text text' : List ℕ) (s s' : Standing) (job rest : List ℕ) (size : ℕ) (command : Command) (tells : List Told) → PrintsAll text s job rest → Some command ≡ doable s.tray (command_of rest) → Does s command tells s'
+    → text' ≡ text ++ flat_map line_bytes tells → size ≡ size_of command → PrintsAll text' s' job (take (length rest - size) (drop size rest))
+prints_more text text' s s' job rest size command tells all is done text_is size_is =
+    subst (PrintsAll text' s' job) (ap (λ n. drop n rest) (sym size_is) ∙ sym (take_rest rest size)) record {
+      within = omega (arith, shorter, all.within);
+      prints =
+        (λ i. (text_is ∙ ap (λ ts. text ++ flat_map line_bytes ts) done.tells_it) i ++ flat_map line_bytes (told_from (done.leaves i) (entries_from 0 (moved i) left)))
+        ∙ append_assoc text (flat_map line_bytes (told_by s command)) (flat_map line_bytes later)
+        ∙ ap (λ l. text ++ l) (sym (flat_map-append line_bytes (told_by s command) later))
+        ∙ ap (λ ts. text ++ flat_map line_bytes ts) (sym (told_more s place rest command (sym is)))
+        ∙ all.prints;
+    }
   where
     left : List ℕ
     left = drop (size_of command) rest
