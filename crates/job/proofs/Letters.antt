@@ -1,5 +1,5 @@
 -- Commands by their letters. Assumes nothing.
-use Rattle.std.proofs.Common.{◌≡◌, ℕ, ◌+◌, ◌*◌, ◌<◌, ◌≤◌, Bool, true, false, cond, eqb, leb, List, [], ◌∷◌, length, get_or, Some, None, Option, sym, refl, ap, ◌∙◌, arith}
+use Rattle.std.proofs.Common.{◌≡◌, ℕ, ◌<◌, ◌≤◌, Bool, true, false, cond, eqb, List, [], ◌∷◌, length, get_or, Some, None, Option, sym, refl, ap, ◌∙◌, arith}
 use Rattle.std.proofs.lemmas.Bool.{le-leb, lt-leb, eqb-true}
 use Rattle.periodicity.specs.declared.Fragment.{Fragment}
 use Rattle.job.specs.declared.command.Command.{Command}
@@ -47,11 +47,11 @@ unfolding command_of
 reads_none [] glyph take join cut places = refl
 reads_none (b ∷ bs) glyph take join cut places =
     let bytes = b ∷ bs in sym (
-      none b 67 _ _ (λ is. short bytes (Glyph (operand 1 bytes)) (glyph is))
-      (none b 84 _ _ (λ is. short bytes Take (take is))
-      (none b 74 _ _ (λ is. short bytes (Join (operand 1 bytes) (operand 2 bytes)) (join is))
-      (none b 75 _ _ (λ is. short bytes (Cut (operand 1 bytes) (fragment 2 bytes)) (cut is))
-      (none b 70 _ _ (λ is. short bytes (Places (operand 1 bytes) (fragment 2 bytes) (fragment 4 bytes)) (places is)) refl)))))
+    none b 67 _ _ (λ is. short bytes (Glyph (operand 1 bytes)) (glyph is))
+    (none b 84 _ _ (λ is. short bytes Take (take is))
+    (none b 74 _ _ (λ is. short bytes (Join (operand 1 bytes) (operand 2 bytes)) (join is))
+    (none b 75 _ _ (λ is. short bytes (Cut (operand 1 bytes) (fragment 2 bytes)) (cut is))
+    (none b 70 _ _ (λ is. short bytes (Places (operand 1 bytes) (fragment 2 bytes) (fragment 4 bytes)) (places is)) refl)))))
   where
     none : (letter known : ℕ) (x y : Option Command) → (letter ≡ known → x ≡ None) → y ≡ None → cond (eqb letter known) x y ≡ None
     none letter known x y at_x at_y = by (eqb letter known) refl

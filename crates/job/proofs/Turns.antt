@@ -132,11 +132,11 @@ prints_more text text' s s' job rest size command tells all is done text_is size
     subst (PrintsAll text' s' job) (ap (λ n. drop n rest) (sym size_is) ∙ sym (take_rest rest size)) record {
       within = omega (arith, shorter, all.within);
       prints =
-        (λ i. (text_is ∙ ap (λ ts. text ++ flat_map line_bytes ts) done.tells_it) i ++ flat_map line_bytes (told_from (done.leaves i) (entries_from 0 (moved i) left)))
-        ∙ append_assoc text (flat_map line_bytes (told_by s command)) (flat_map line_bytes later)
-        ∙ ap (λ l. text ++ l) (sym (flat_map-append line_bytes (told_by s command) later))
-        ∙ ap (λ ts. text ++ flat_map line_bytes ts) (sym (told_more s place rest command (sym is)))
-        ∙ all.prints;
+          (λ i. (text_is ∙ ap (λ ts. text ++ flat_map line_bytes ts) done.tells_it) i ++ flat_map line_bytes (told_from (done.leaves i) (entries_from 0 (moved i) left)))
+          ∙ append_assoc text (flat_map line_bytes (told_by s command)) (flat_map line_bytes later)
+          ∙ ap (λ l. text ++ l) (sym (flat_map-append line_bytes (told_by s command) later))
+          ∙ ap (λ ts. text ++ flat_map line_bytes ts) (sym (told_more s place rest command (sym is)))
+          ∙ all.prints;
     }
   where
     left : List ℕ

@@ -11,7 +11,7 @@ pub loop-command-preserved : goal.loop-command-preserved
 loop-command-preserved c =
     let text = string_bytes c.loop-command.text in
     let text_is : string_bytes c.match-branch-2.text ≡ text ++ flat_map line_bytes (told_lines c.in_ok-line.field-0) = elim c.match-branch-2.branch [
-        in-Some-2+in_ok-print w ↦ ap string_bytes w.text-is ∙ prints_some text _ _ _ w.in-Some-2.is w.in_ok-print.ensures
+      | in-Some-2+in_ok-print w ↦ ap string_bytes w.text-is ∙ prints_some text _ _ _ w.in-Some-2.is w.in_ok-print.ensures
       | in_default-2 w ↦ ap string_bytes w.text-is ∙ prints_none text _ w.in_default-2.is
-      ] in
+    ] in
     prints_more text _ _ _ _ _ _ _ _ c.loop-command.invariant c.in-Some.ensures c.in_ok-line.ensures text_is c.size.ensures
