@@ -21,6 +21,7 @@ const MOST_GLYPHS: usize = 8192;
 // The places of the work area.
 pub(crate) const WORK_PLACES: usize = 8192;
 
+// The shelf keeps glyphs, from the first command to the last.
 #[derive(Drop)]
 pub(crate) struct Desk {
     shelf: Shelf,

@@ -20,7 +20,8 @@ fn print(heap: Global, text: &mut String, line: Line) -> Result<(), AllocError>
     text.push_str(line.bytes(heap)?.as_str())
 }
 
-// All that is printed for the commands of a job.
+// All that is printed for the commands of a job. Where bytes are left that no command that can be done begins,
+// the job stops.
 #[tactic(auto, using(crate::proofs::Turns::turns))]
 fn run_commands(heap: Global, job: &[u8]) -> Result<String, AllocError>
     ensures { IfOk result (λ text. string_bytes text ≡ flat_map line_bytes (told_from nothing_yet (entries job.now))) }
