@@ -1,5 +1,8 @@
 -- One strip has one number, one number has one strip, in the lines of a job. Assumes nothing.
-use Rattle.std.proofs.Common.{◌≡◌, ℕ, Bool, true, false, cond, leb, ◌↔◌, List, [], ◌∷◌, ◌++◌, length, Some, None, sym, refl, ap, ◌∙◌, subst, arith}
+use Rattle.std.proofs.Common.{◌≡◌, ℕ, ◌<◌, ◌≤◌, Result, IfOk, String, Global, string_bytes, Bool, true, false, cond, leb, ◌↔◌, List, [], ◌∷◌, ◌++◌, length, Some, None, sym, refl, ap, ◌∙◌, subst, arith}
+use Rattle.std.proofs.lemmas.Result.{IfOk-weaker}
+use Rattle.std.specs.List.{flat_map}
+use Rattle.std.specs.declared.alloc.AllocError.{AllocError}
 use Rattle.cells.specs.declared.glyph.Glyph.{Glyph}
 use Rattle.cells.specs.Glyphs.{glyph_of, glyph_known, glyph_code, glyph_given}
 use Rattle.rows.specs.Lawful.{Lawful}
@@ -12,7 +15,8 @@ use Rattle.job.specs.declared.command.Command.{Command}
 use Rattle.job.specs.declared.command.Command.TheVariants.{Glyph as put, Take, Join, Cut, Places}
 use Rattle.job.specs.Commands.{Entry, reads, unreadable, entries}
 use Rattle.job.specs.Runs.{most_bytes, Standing, nothing_yet, calls_by, tray_after, fits, turn, stopped, too_long, told_by, after, told_from, calls_from, told_of, calls_of, answers_in, same_glyph}
-use Rattle.job.specs.Lines.{printed_by, LawfulPrintout}
+use Rattle.job.specs.Lines.{line_bytes, printed_by, LawfulPrintout}
+use Rattle.job.proofs.Turns.{printed_too_long, printed_run}
 
 -- the answers in what entries tell are those of the calls that they make
 pub answers_told : (s : Standing) (es : List Entry) → answers_in (told_from s es) ≡ answers_of true glyph_code s.rows (calls_from s.tray es)
@@ -71,3 +75,16 @@ printout_lawful job text is =
       law = subst (λ answers. OneNumber same_glyph answers (strips_of true glyph_code glyph_given [] (calls_of job))) (sym (answers_job job))
           (one_number_of_run true glyph_code glyph_known glyph_given same_glyph glyph_laws [] lawful_none tt (calls_of job));
     }
+
+-- a job that is too long prints that alone, and any other what its commands tell
+pub prints_too_long : (job : List ℕ) (r : Result (String Global) AllocError) → most_bytes < length job → IfOk r (λ text. string_bytes text ≡ line_bytes too_long) → IfOk r (λ text. string_bytes text ≡ printed_by job)
+prints_too_long job r long told = IfOk-weaker r _ _ (λ text is. is ∙ printed_too_long job long) told
+
+pub prints_run : (job : List ℕ) (r : Result (String Global) AllocError) → length job ≤ most_bytes → IfOk r (λ text. string_bytes text ≡ flat_map line_bytes (told_from nothing_yet (entries job))) → IfOk r (λ text. string_bytes text ≡ printed_by job)
+prints_run job r short told = IfOk-weaker r _ _ (λ text is. is ∙ printed_run job short) told
+
+-- and what is printed is lawful
+pub prints_lawfully : (job : List ℕ) (r : Result (String Global) AllocError) → IfOk r (λ text. string_bytes text ≡ printed_by job) → IfOk r (λ text. LawfulPrintout job (string_bytes text))
+prints_lawfully job r printed = IfOk-weaker r _ _ (λ text is. printout_lawful job (string_bytes text) is) printed
+
+pub ruleset printouts = (prints_too_long, prints_run, prints_lawfully)

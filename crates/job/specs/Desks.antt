@@ -11,10 +11,6 @@ use Rattle.job.specs.Lines.{told_in}
 abbrev pub standing_of : Desk → Standing
 standing_of d = record { rows = rows_on d.shelf; tray = vec_items d.tray }
 
--- the shelf is a glyph shelf
-abbrev pub OfGlyphs : Desk → Type 0
-OfGlyphs d = d.shelf.kind ≡ 1
-
 -- the command that was read, unless it cannot be done
 abbrev pub doable : List Glyph → Option Command → Option Command
 doable tray None = None

@@ -1,7 +1,7 @@
 // The commands of a job.
 
 ghost use Rattle.std.specs.Prelude.{◌≡◌, ◌+◌, ◌*◌, slice_index};
-ghost use Rattle.job.specs.Commands.{operand as operand_of, fragment as fragment_of, whole, said_by, command_of, size_of};
+ghost use Rattle.job.specs.Commands.{command_of, size_of};
 
 use periodicity::Fragment;
 
@@ -50,86 +50,31 @@ fn fragment(bytes: [u8; 4]) -> Fragment
     }
 }
 
-// The command of each letter, none when it is cut short.
-fn glyph(bytes: &[u8]) -> Option<Command>
-    ensures { result ≡ whole bytes.now (Command.Glyph (operand_of 1 bytes.now)) }
-{
-    match bytes {
-        [_, a, b, ..] => Some(Command::Glyph {
-            number: operand(*a, *b),
-        }),
-        _ => None,
-    }
-}
-
-fn take(bytes: &[u8]) -> Option<Command>
-    ensures { result ≡ whole bytes.now Command.Take }
-{
-    match bytes {
-        [_, ..] => Some(Command::Take),
-        [] => None,
-    }
-}
-
-fn join(bytes: &[u8]) -> Option<Command>
-    ensures { result ≡ whole bytes.now (Command.Join (operand_of 1 bytes.now) (operand_of 2 bytes.now)) }
-{
-    match bytes {
-        [_, a, b, c, d, ..] => Some(Command::Join {
-            left: operand(*a, *b),
-            right: operand(*c, *d),
-        }),
-        _ => None,
-    }
-}
-
-fn cut(bytes: &[u8]) -> Option<Command>
-    ensures { result ≡ whole bytes.now (Command.Cut (operand_of 1 bytes.now) (fragment_of 2 bytes.now)) }
-{
-    match bytes {
-        [_, a, b, c, d, e, f, ..] => Some(Command::Cut {
-            number: operand(*a, *b),
-            part: fragment([*c, *d, *e, *f]),
-        }),
-        _ => None,
-    }
-}
-
-fn places(bytes: &[u8]) -> Option<Command>
-    ensures { result ≡ whole bytes.now (Command.Places (operand_of 1 bytes.now) (fragment_of 2 bytes.now) (fragment_of 4 bytes.now)) }
-{
-    match bytes {
-        [_, a, b, c, d, e, f, g, h, i, j, ..] => Some(Command::Places {
-            number: operand(*a, *b),
-            pattern: fragment([*c, *d, *e, *f]),
-            field: fragment([*g, *h, *i, *j]),
-        }),
-        _ => None,
-    }
-}
-
-// The command that a letter and the operands after it say.
-fn said(letter: u8, bytes: &[u8]) -> Option<Command>
-    ensures { result ≡ said_by letter bytes.now }
-{
-    match letter {
-        b'C' => glyph(bytes),
-        b'T' => take(bytes),
-        b'J' => join(bytes),
-        b'K' => cut(bytes),
-        b'F' => places(bytes),
-        _ => None,
-    }
-}
-
 impl Command {
     // The command at the front of some bytes; none when the letter is unknown or the command is cut short.
+    #[tactic(auto, using(crate::proofs::Letters::readings))]
     pub fn read(bytes: &[u8]) -> Option<Command>
         ensures { result ≡ command_of bytes.now }
     {
         match bytes {
-            [letter, ..] => said(*letter, bytes),
-            [] => None,
+            [b'C', a, b, ..] => Some(Command::Glyph {
+                number: operand(*a, *b),
+            }),
+            [b'T', ..] => Some(Command::Take),
+            [b'J', a, b, c, d, ..] => Some(Command::Join {
+                left: operand(*a, *b),
+                right: operand(*c, *d),
+            }),
+            [b'K', a, b, c, d, e, f, ..] => Some(Command::Cut {
+                number: operand(*a, *b),
+                part: fragment([*c, *d, *e, *f]),
+            }),
+            [b'F', a, b, c, d, e, f, g, h, i, j, ..] => Some(Command::Places {
+                number: operand(*a, *b),
+                pattern: fragment([*c, *d, *e, *f]),
+                field: fragment([*g, *h, *i, *j]),
+            }),
+            _ => None,
         }
     }
 

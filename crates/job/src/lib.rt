@@ -9,4 +9,4 @@ mod running;
 
 pub use command::Command;
 pub use line::Line;
-pub use running::{JobError, run};
+pub use running::{MOST_BYTES, run};

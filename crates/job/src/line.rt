@@ -1,6 +1,6 @@
 // The lines that a job prints.
 
-ghost use Rattle.std.specs.Prelude.{◌≡◌, ◌++◌, IfOk, Some, string_bytes, codes as ascii, decimal};
+ghost use Rattle.std.specs.Prelude.{◌≡◌, ◌++◌, IfOk, Some, string_bytes};
 ghost use Rattle.std.specs.Fmt.{WritesOnOk};
 ghost use Rattle.shelf.specs.Refusals.{told};
 ghost use Rattle.job.specs.Lines.{told_in, answer_text, line_text, line_bytes};
@@ -42,31 +42,18 @@ fn write_answer<W: fmt::Write>(
     }
 }
 
-// Where the job stopped.
-fn write_stop<W: fmt::Write>(f: &mut fmt::Formatter<W>, place: usize) -> fmt::Result
-    ensures { WritesOnOk W.Write.write_str_gives f.old result (ascii "job stopped at " ++ decimal place) f.new }
-{
-    write!(f, "job stopped at {place}")
-}
-
-// That nothing was run.
-fn write_too_long<W: fmt::Write>(f: &mut fmt::Formatter<W>) -> fmt::Result
-    ensures { WritesOnOk W.Write.write_str_gives f.old result (ascii "job too long") f.new }
-{
-    write!(f, "job too long")
-}
-
 impl fmt::Display for Line {
     ghost output = { λ l. Some (line_text (told_in l)) };
 
+    #[tactic(auto, unfolding(crate::specs::Lines::line_text))]
     fn fmt<W: fmt::Write>(&self, f: &mut fmt::Formatter<W>) -> fmt::Result {
         match *self {
             Line::Take(answer) => write_answer(f, "T", answer),
             Line::Join(answer) => write_answer(f, "J", answer),
             Line::Cut(answer) => write_answer(f, "K", answer),
             Line::Places(found) => write_found(f, "F", found),
-            Line::Stopped { place } => write_stop(f, place),
-            Line::TooLong => write_too_long(f),
+            Line::Stopped { place } => write!(f, "job stopped at {place}"),
+            Line::TooLong => write!(f, "job too long"),
         }
     }
 }

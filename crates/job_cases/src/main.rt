@@ -5,18 +5,26 @@
 
 mod spelled;
 
-use anyhow::anyhow;
-use job::JobError;
+use anyhow::ensure;
 use spelled::{job_of, parts, printout_of};
 use std::fs;
 use tally::Tally;
 
-// Runs a job, and says whether it prints what is expected.
-fn agrees(rt: &HostRuntime, job: &[u8], expected: &[u8]) -> anyhow::Result<bool> {
-    match job::run(rt.alloc(), job) {
-        Ok(printed) => Ok(printed.as_bytes() == expected),
-        Err(JobError::Memory) => Err(anyhow!("there is too little memory")),
+// Runs a job and counts it; where it does not print what is expected, says so.
+fn run_case(
+    rt: &HostRuntime,
+    tally: &mut Tally,
+    name: &str,
+    job: &[u8],
+    expected: &[u8],
+) -> anyhow::Result<()> {
+    let printed = job::run(rt.alloc(), job)?;
+    let agrees = printed.as_bytes() == expected;
+    tally.count(agrees);
+    if !agrees {
+        println!(rt; "{name} differs")?;
     }
+    Ok(())
 }
 
 // Runs the jobs that a list names, each with its printout in a file beside it.
@@ -25,13 +33,16 @@ fn run_files(rt: &HostRuntime, list: &str) -> anyhow::Result<Tally> {
     let names = fs::read_to_string(rt, list)?;
     let mut tally = Tally::new();
     for name in names.lines() {
-        let job = fs::read(rt, format!(in heap; "{name}.job")?.as_str())?;
+        let file = format!(in heap; "{name}.job")?;
+        let job = fs::read(rt, file.as_str())?;
         let expected = fs::read(rt, format!(in heap; "{name}.out")?.as_str())?;
-        let agree = agrees(rt, job.as_slice(), expected.as_slice())?;
-        tally.count(agree);
-        if !agree {
-            println!(rt; "{name}.job differs")?;
-        }
+        run_case(
+            rt,
+            &mut tally,
+            file.as_str(),
+            job.as_slice(),
+            expected.as_slice(),
+        )?;
     }
     Ok(tally)
 }
@@ -45,14 +56,17 @@ fn run_lines(rt: &HostRuntime, name: &str) -> anyhow::Result<Tally> {
         if line.starts_with('#') {
             continue;
         }
+        let place = format!(in heap; "{name} line {}", i.saturating_add(1))?;
         let (job, expected) = parts(line);
         let job = job_of(heap, job)?;
         let expected = printout_of(heap, expected)?;
-        let agree = agrees(rt, job.as_slice(), expected.as_bytes())?;
-        tally.count(agree);
-        if !agree {
-            println!(rt; "{name} line {} differs", i.saturating_add(1))?;
-        }
+        run_case(
+            rt,
+            &mut tally,
+            place.as_str(),
+            job.as_slice(),
+            expected.as_bytes(),
+        )?;
     }
     Ok(tally)
 }
@@ -62,9 +76,10 @@ fn run(rt: &HostRuntime) -> anyhow::Result<()> {
     println!(rt; "jobs in files: {files}")?;
     let lines = run_lines(rt, "small.txt")?;
     println!(rt; "jobs in lines: {lines}")?;
-    if !files.all_agree() || !lines.all_agree() {
-        return Err(anyhow!("some jobs do not agree"));
-    }
+    ensure!(
+        files.all_agree() && lines.all_agree(),
+        "some jobs do not agree"
+    );
     Ok(())
 }
 

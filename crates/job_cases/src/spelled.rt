@@ -5,18 +5,16 @@ use std::alloc::{AllocError, Global};
 
 // The job and its printout.
 pub(crate) fn parts(line: &str) -> (&str, &str) {
-    match line.split_once('=') {
-        Some((job, printout)) => (job.trim(), printout.trim()),
-        None => (line, "a printout"),
-    }
+    line.split_once('=')
+        .map_or((line, "a printout"), |(job, printout)| {
+            (job.trim(), printout.trim())
+        })
 }
 
 pub(crate) fn job_of(heap: Global, text: &str) -> anyhow::Result<Vec<u8>> {
-    let mut bytes = Vec::new(heap);
-    for word in text.split_whitespace() {
-        bytes.push(u8::from_str_radix(word, 16)?)?;
-    }
-    Ok(bytes)
+    text.split_whitespace()
+        .map(|word| -> anyhow::Result<u8> { Ok(u8::from_str_radix(word, 16)?) })
+        .try_collect(heap)
 }
 
 // A line for each part between slashes; an empty text is no line.
