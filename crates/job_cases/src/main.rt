@@ -5,7 +5,7 @@
 
 mod spelled;
 
-use anyhow::ensure;
+use anyhow::{anyhow, ensure};
 use spelled::{job_of, parts, printout_of};
 use std::fs;
 use tally::Tally;
@@ -18,7 +18,7 @@ fn run_case(
     job: &[u8],
     expected: &[u8],
 ) -> anyhow::Result<()> {
-    let printed = job::run(rt.alloc(), job)?;
+    let printed = job::run(rt.alloc(), job).map_err(|_| anyhow!("there is too little memory"))?;
     let agrees = printed.as_bytes() == expected;
     tally.count(agrees);
     if !agrees {
