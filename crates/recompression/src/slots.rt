@@ -1,11 +1,12 @@
 // The slots of a table: plain data, with no invariant.
 ghost use Rattle.std.specs.Prelude.{◌≡◌, ◌<◌, ◌≤◌, replicate};
 ghost use Rattle.rows.specs.Filing.{blank_row};
-ghost use Rattle.recompression.specs.Tables.{appended, shortened};
+ghost use Rattle.recompression.specs.Tables.{in_use, appended, truncated};
 
 use rows::{BLANK, MAX_ROWS, Row};
 
-// Rows, of which the first `count` are in use.
+// Rows, of which the first `count` are in use. The memory is fixed, so that it is an array with a count and no
+// list that grows.
 #[derive(Drop)]
 pub struct Slots {
     pub(crate) rows: [Row; MAX_ROWS],
@@ -33,13 +34,20 @@ impl Slots {
         self.count += 1;
     }
 
-    // Takes the last row in use off again.
-    pub(crate) fn remove_last(&mut self)
-        requires few { self.old.count ≤ 1024 }
-        requires some { 0 < self.old.count }
-        ensures { self.new ≡ shortened self.old }
+    // The rows in use.
+    pub(crate) fn in_use(&self) -> &[Row]
+        requires { self.now.count ≤ 1024 }
+        ensures { result.now ≡ in_use self.now }
     {
-        self.count -= 1;
-        self.rows[self.count] = BLANK;
+        &self.rows[..self.count]
+    }
+
+    // Makes the slots after the first `count` blank.
+    pub(crate) fn truncate(&mut self, count: usize)
+        requires { self.old.count ≤ 1024 }
+        ensures { self.new ≡ truncated count self.old }
+    {
+        self.count = self.count.min(count);
+        self.rows[self.count..].fill(BLANK);
     }
 }

@@ -1,35 +1,20 @@
 -- What is left to show of `find`. Assumes nothing.
-use Rattle.std.proofs.Common.{◌<◌, ◌≤◌, length, sym, ap, ◌∙◌, arith}
-use Rattle.std.proofs.lemmas.List.{get_or-take}
-use Rattle.rows.specs.Filing.{alike, blank_row}
+use Rattle.std.proofs.Common.{rules, tests, ◌≡◌, Some, None, sym, ◌∙◌, ap}
+use Rattle.std.specs.List.{position}
+use Rattle.std.proofs.lemmas.Iterator.{YieldsList-from_slice}
+use Rattle.std.proofs.lemmas.Iterator.Search.{position_from_yields_List}
 use Rattle.recompression.specs.Tables.{in_use}
-use Rattle.recompression.proofs.FileFacts.{find_begins, find_here, find_further, find_past}
-use Rattle.recompression.proofs.SlotFacts.{length_in_use}
+use Rattle.recompression.proofs.FileFacts.{has_shape, find_at, find_none}
 use Rattle.recompression.proofs.table.Table.find.Goals as goal
 
-pub loop-index-init : goal.loop-index-init
-loop-index-init c = find_begins (in_use c.args.self.now.slots) c.args.shape
-
-pub returns-then-same_shape : goal.returns-then-same_shape
-returns-then-same_shape c =
-    let s = c.args.self.now.slots in
-    let i = c.loop-index.index in
-    let within : i < length (in_use s) = let l = length_in_use s c.args.self.now.sound in omega arith in
-    let row = get_or-take s.count s.rows i blank_row (omega arith) in
-    sym (c.loop-index.invariant ∙ find_here (in_use s) c.args.shape i within
-    (ap (λ r. alike r.shape c.args.shape) row ∙ sym c.if-same_shape.ensures))
-
-pub loop-index-preserved : goal.loop-index-preserved
-loop-index-preserved c =
-    let s = c.args.self.now.slots in
-    let i = c.loop-index.index in
-    let within : i < length (in_use s) = let l = length_in_use s c.args.self.now.sound in omega arith in
-    let row = get_or-take s.count s.rows i blank_row (omega arith) in
-    c.loop-index.invariant ∙ find_further (in_use s) c.args.shape i within
-    (ap (λ r. alike r.shape c.args.shape) row ∙ sym c.if-same_shape.ensures)
+pub returns-in_err-index : goal.returns-in_err-index
+returns-in_err-index c =
+    let rows = in_use c.args.self.now.slots in
+    let place : c.position.result ≡ position (has_shape c.args.shape) c.in_use.result.now = position_from_yields_List (has_shape c.args.shape) _ _ c.position.result c.position.ensures.ran (YieldsList-from_slice _ c.iter.ensures.rest) (λ x b q k. search (rules, tests)) in
+    c.from_residual.ensures ∙ sym (find_none rows c.args.shape (sym (c.in_err-index.was) ∙ place ∙ ap (position (has_shape c.args.shape)) c.in_use.ensures))
 
 pub returns : goal.returns
 returns c =
-    let s = c.args.self.now.slots in
-    let past : length (in_use s) ≤ c.loop-index.index = let l = length_in_use s c.args.self.now.sound in omega arith in
-    sym (c.loop-index.invariant ∙ find_past (in_use s) c.args.shape c.loop-index.index past)
+    let rows = in_use c.args.self.now.slots in
+    let place : c.position.result ≡ position (has_shape c.args.shape) c.in_use.result.now = position_from_yields_List (has_shape c.args.shape) _ _ c.position.result c.position.ensures.ran (YieldsList-from_slice _ c.iter.ensures.rest) (λ x b q k. search (rules, tests)) in
+    sym (find_at rows c.args.shape c.in_ok-index.index (sym (c.in_ok-index.was) ∙ place ∙ ap (position (has_shape c.args.shape)) c.in_use.ensures))
