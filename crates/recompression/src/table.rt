@@ -9,6 +9,7 @@ mod expansion;
 mod filing;
 mod pairing;
 mod reading;
+mod rounds;
 mod settle;
 mod stretch;
 
