@@ -1,7 +1,7 @@
 // Even rounds: every left number followed by a right number becomes a pair.
 ghost use Rattle.std.specs.Prelude.{◌≡◌, ◌<◌, length};
 ghost use Rattle.recompression.specs.InPlace.{IsFirst, Partner};
-ghost use Rattle.rows.specs.Rounds.{is_left, joins, left_at, pairs};
+ghost use Rattle.rows.specs.Rounds.{is_left, left_at, pairs};
 
 use crate::table::rounds::Block;
 use rows::Shape;
@@ -26,20 +26,16 @@ fn is_left(round: u32, number: u16) -> bool
     left_in_turn((round / 2).saturating_sub(1) % 22, number)
 }
 
-// Whether two neighbours are joined in an even round: a left number followed by a right one.
-fn makes_pair(round: u32, first: u16, second: u16) -> bool
-    ensures { result ≡ joins round first second }
-{
-    is_left(round, first) && !is_left(round, second)
-}
-
 // The number with which the first of the numbers makes a pair in that round, if it does.
+#[tactic(auto, using(crate::proofs::RoundFacts::partner_not_left))]
 fn partner(round: u32, numbers: &[u16]) -> Option<u16>
     requires { 0 < length numbers.now }
     ensures { Partner round numbers.now result }
 {
     match numbers {
-        [first, second, ..] if makes_pair(round, *first, *second) => Some(*second),
+        [first, second, ..] if is_left(round, *first) && !is_left(round, *second) => {
+            Some(*second)
+        },
         _ => None,
     }
 }
