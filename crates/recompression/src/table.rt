@@ -2,6 +2,7 @@
 ghost use Rattle.recompression.specs.Tables.{Sound};
 
 use crate::slots::Slots;
+pub use crate::table::expansion::OutOfStrip;
 pub use crate::table::settle::Unsettled;
 
 mod codes;

@@ -20,6 +20,7 @@ fn left_in_turn(turn: u32, number: u16) -> bool
 }
 
 // The class of a number in an even round: left, or else right.
+#[tactic(auto, unfolding(rows::specs::Rounds::is_left))]
 fn is_left(round: u32, number: u16) -> bool
     ensures { result ≡ is_left round number }
 {
