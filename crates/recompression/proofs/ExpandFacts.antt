@@ -14,8 +14,7 @@ use Rattle.rows.specs.declared.Row.{Row}
 use Rattle.rows.specs.Filing.{row_of}
 use Rattle.rows.specs.Strips.{times, leaf_string}
 use Rattle.recompression.specs.Expansions.{part_length, written_out, Asked}
-use Rattle.recompression.specs.Tables.{in_use, LengthsKept}
-use Rattle.recompression.specs.declared.table.Table.{Table}
+use Rattle.recompression.specs.Tables.{LengthsKept}
 use Rattle.recompression.proofs.LeafFacts.{part_string, shape_leaves, leaf_string_of_row, leaves_kept, part_kept, part_known}
 use Rattle.recompression.proofs.LengthFacts.{length_times}
 
@@ -136,56 +135,50 @@ pub record Copied (rows : List Row) (n start limit count copy : ℕ) (out : List
   pub done : take copy out ≡ written_out rows n start (min copy count)
   pub whole : copy < count → (start + copy) % limit ≡ 0
 
-module _ (table : Table) (n start : ℕ) where
-  abbrev rows : List Row
-  rows = in_use table.slots
+-- nothing to write
+pub nothing_out : (rows : List Row) (n start : ℕ) (out : List ℕ) → length out ≡ 0 → out ≡ written_out rows n start (length out)
+nothing_out rows n start out none = nil_from_length out none ∙ sym (ap (λ m. written_out rows n start m) none)
 
-  kept : LengthsKept (in_use table.slots)
-  kept = table.sound.3
-
-  -- nothing to write
-  pub nothing_out : (out : List ℕ) → length out ≡ 0 → out ≡ written_out rows n start (length out)
-  nothing_out out none = nil_from_length out none ∙ sym (ap (λ m. written_out rows n start m) none)
-
+module _ {rows : List Row} {n start : ℕ} (kept : LengthsKept rows) where
   -- the leaf string of a row that is asked for
-  module _ (shape : Shape) (count : ℕ) (asked : Asked rows n shape start count) where
+  module _ {shape : Shape} {count : ℕ} (asked : Asked rows n shape start count) where
     string_is : leaf_string rows n ≡ shape_leaves rows n shape
-    string_is = leaf_string_of_row rows n asked.1 asked.2 ∙ ap (shape_leaves rows n) asked.0
+    string_is = leaf_string_of_row rows n asked.some asked.known ∙ ap (shape_leaves rows n) asked.is
 
     kept_is : (row_of rows n).length ≡ min 65535 (length (shape_leaves rows n shape))
     kept_is = leaves_kept rows kept n ∙ ap (λ xs. min 65535 (length xs)) string_is
 
     few : start + count ≤ 65535
-    few = omega (arith, kept_is, asked.3)
+    few = omega (arith, kept_is, asked.within)
 
   -- a leaf is its own number
-  pub leaf_out : (code : ℕ) (out : List ℕ) → Asked rows n (Leaf code) start (length out) → 0 < length out → set out 0 n ≡ written_out rows n start (length out)
-  leaf_out code [] asked more = absurd (omega arith)
-  leaf_out code (x ∷ out) asked more =
-      let string = string_is (Leaf code) (suc (length out)) asked in
-      let one = kept_is (Leaf code) (suc (length out)) asked in
-      let first : start ≡ 0 = omega (arith, asked.3) in
-      let alone : length out ≡ 0 = omega (arith, asked.3) in
+  pub leaf_out : {code : ℕ} (out : List ℕ) → Asked rows n (Leaf code) start (length out) → 0 < length out → set out 0 n ≡ written_out rows n start (length out)
+  leaf_out [] asked more = absurd (omega arith)
+  leaf_out (x ∷ out) asked more =
+      let string = string_is asked in
+      let one = kept_is asked in
+      let first : start ≡ 0 = omega (arith, asked.within) in
+      let alone : length out ≡ 0 = omega (arith, asked.within) in
       ap (λ xs. n ∷ xs) (nil_from_length out alone)
       ∙ sym (ap (λ m. written_out rows n start (suc m)) alone ∙ ap (λ i. written_out rows n i 1) first ∙ ap (take 1) string)
 
-  module _ (left right count : ℕ) (asked : Asked rows n (Pair left right) start count) (split : ℕ) (at : split ≡ min (part_length rows n left - start) count) where
+  module _ {left right count : ℕ} (asked : Asked rows n (Pair left right) start count) (split : ℕ) (at : split ≡ min (part_length rows n left - start) count) where
     -- what the right part is asked for
     pub right_fits : split < count → (right < n) × (start - part_length rows n left + (count - split) ≤ (row_of rows right).length) × (part_string rows n right ≡ leaf_string rows right)
     right_fits more =
         let a = part_kept rows kept n left in
         let b = part_kept rows kept n right in
-        let all = kept_is (Pair left right) count asked in
+        let all = kept_is asked in
         let both = length-append (part_string rows n left) (part_string rows n right) in
-        let fits : start - part_length rows n left + (count - split) ≤ part_length rows n right = omega (arith, asked.3) in
+        let fits : start - part_length rows n left + (count - split) ≤ part_length rows n right = omega (arith, asked.within) in
         let part = part_known rows n right (omega arith) in
         (part.0, subst (λ m. start - part_length rows n left + (count - split) ≤ m) part.1 fits, part.2)
 
     pair_parts : take split (drop start (part_string rows n left)) ++ take (count - split) (drop (start - part_length rows n left) (part_string rows n right))
         ≡ written_out rows n start count
     pair_parts =
-        two_parts (part_string rows n left) (part_string rows n right) start count (part_length rows n left) split (part_kept rows kept n left) (few (Pair left right) count asked) at
-        ∙ ap (λ xs. take count (drop start xs)) (sym (string_is (Pair left right) count asked))
+        two_parts (part_string rows n left) (part_string rows n right) start count (part_length rows n left) split (part_kept rows kept n left) (few asked) at
+        ∙ ap (λ xs. take count (drop start xs)) (sym (string_is asked))
 
     -- the front is that of the left part, written or empty
     pub front_written : (out ys : List ℕ) (size k : ℕ) → 0 < split → size ≡ split → ys ≡ written_out rows left start size → length ys ≡ size
@@ -217,9 +210,9 @@ module _ (table : Table) (n start : ℕ) where
           ∙ ap (λ m. take split (drop start (part_string rows n left)) ++ take m (drop (start - part_length rows n left) (part_string rows n right))) (sym none)
           ∙ pair_parts
 
-  module _ (part m count : ℕ) (asked : Asked rows n (Repeat part m) start count) (more : 0 < count) (limit : ℕ) (is : limit ≡ part_length rows n part) where
+  module _ {part m count limit : ℕ} (asked : Asked rows n (Repeat part m) start count) (more : 0 < count) (is : limit ≡ part_length rows n part) where
     repeat_long : (row_of rows n).length ≡ min 65535 (m * length (part_string rows n part))
-    repeat_long = kept_is (Repeat part m) count asked ∙ ap (min 65535) (length_times m (part_string rows n part))
+    repeat_long = kept_is asked ∙ ap (min 65535) (length_times m (part_string rows n part))
 
     -- a part that is asked for anything has a length, and is below its row
     pub repeat_part : (0 < limit) × (part < n) × (limit ≡ (row_of rows part).length)
@@ -230,7 +223,7 @@ module _ (table : Table) (n start : ℕ) where
           | inr none ↦
               let empty : length (part_string rows n part) ≡ 0 = let p = part_kept rows kept n part in omega arith in
               let zeros : m * length (part_string rows n part) ≡ m * 0 = ap (λ l. m * l) empty in
-              absurd (omega (arith, repeat_long, asked.3))
+              absurd (omega (arith, repeat_long, asked.within))
         ] in
         let known = part_known rows n part long in
         (omega arith, known.0, is ∙ known.1)
@@ -244,12 +237,12 @@ module _ (table : Table) (n start : ℕ) where
         let some : 0 < limit = repeat_part.0 in
         let low : place % limit < limit = mod-lt place some in
         let known = part_known rows n part (omega arith) in
-        let copy = copy_part_within m (part_string rows n part) place (end - filled) limit (is ∙ part_kept rows kept n part) (omega (arith, repeat_long, asked.3)) (omega arith) in
+        let copy = copy_part_within m (part_string rows n part) place (end - filled) limit (is ∙ part_kept rows kept n part) (omega (arith, repeat_long, asked.within)) (omega arith) in
         take-put_mid filled (end - filled) out ys end (omega arith) (omega arith)
         ∙ ap (λ xs. xs ++ ys) done
         ∙ ap (λ xs. written_out rows n start filled ++ xs)
         (written ∙ ap (λ i. written_out rows part i (end - filled)) there ∙ ap (λ xs. take (end - filled) (drop (place % limit) xs)) (sym known.2) ∙ sym copy
-        ∙ ap (λ xs. take (end - filled) (drop place xs)) (sym (string_is (Repeat part m) count asked))
+        ∙ ap (λ xs. take (end - filled) (drop place xs)) (sym (string_is asked))
         ∙ ap (take (end - filled)) (sym (drop-drop filled start (leaf_string rows n))))
         ∙ sym (take_in_two (drop start (leaf_string rows n)) filled end (omega arith))
 

@@ -19,6 +19,9 @@ Expanded rows n start old (Err refused) new = ((row_of rows n).length < start + 
 abbrev pub part_length : List Row → ℕ → ℕ → ℕ
 part_length rows n part = cond (nat_lt part n) (row_of rows part).length 0
 
--- row n is known and of that shape, and keeps a length that has so many places from the start on
-abbrev pub Asked : List Row → ℕ → Shape → ℕ → ℕ → Type 0
-Asked rows n shape start count = ((row_of rows n).shape ≡ shape) × (0 < n) × (n ≤ length rows) × (start + count ≤ (row_of rows n).length)
+-- so many places from the start on, asked of a known row of that shape, which keeps a length that has them all
+pub record Asked (rows : List Row) (n : ℕ) (shape : Shape) (start count : ℕ) : Type 0 where
+  pub is : (row_of rows n).shape ≡ shape
+  pub some : 0 < n
+  pub known : n ≤ length rows
+  pub within : start + count ≤ (row_of rows n).length

@@ -12,18 +12,16 @@ use Rattle.recompression.proofs.table.Table.+expand_pair_expand_repeat_expand_ro
 
 pub expand_pair-expand_row-requires-then-split-out : goal.expand_pair-expand_row-requires-then-split-out
 expand_pair-expand_row-requires-then-split-out t c =
-    let table = c.args.self.now in
-    let rows = in_use table.slots in
+    let rows = in_use c.args.self.now.slots in
     let count = length c.args.out.now in
     let split = c.min-split.result in
     let at : split ≡ min (part_length rows c.args.number c.args.left - c.args.start) count = omega arith in
-    let fits = right_fits table c.args.number c.args.start c.args.left c.args.right count c.requires split at (omega arith) in
+    let fits = right_fits c.args.self.now.sound.3 c.requires split at (omega arith) in
     (omega (arith, fits.0), omega (arith, fits.1, length-take (length c.if-split-gt0.out - split) (drop split c.if-split-gt0.out)))
 
 pub expand_pair-returns-then-split-out : goal.expand_pair-returns-then-split-out
 expand_pair-returns-then-split-out t c =
-    let table = c.args.self.now in
-    let rows = in_use table.slots in
+    let rows = in_use c.args.self.now.slots in
     let count = length c.args.out.now in
     let split = c.min-split.result in
     let at : split ≡ min (part_length rows c.args.number c.args.left - c.args.start) count = omega arith in
@@ -32,17 +30,16 @@ expand_pair-returns-then-split-out t c =
     elim c.if-split-gt0.branch [
       | expand_pair-then-split-gt0 w ↦
           ap (take split) w.out-is
-          ∙ front_written table c.args.number c.args.start c.args.left c.args.right count c.requires split at c.args.out.now w.expand_row.new.out _ _ (omega arith) (omega arith) w.expand_row.ensures (omega arith)
-      | expand_pair-else-split-gt0 w ↦ front_empty table c.args.number c.args.start c.args.left c.args.right count c.requires split at out (omega arith)
+          ∙ front_written c.args.self.now.sound.3 c.requires split at c.args.out.now w.expand_row.new.out _ _ (omega arith) (omega arith) w.expand_row.ensures (omega arith)
+      | expand_pair-else-split-gt0 w ↦ front_empty c.args.self.now.sound.3 c.requires split at out (omega arith)
     ] in
-    pair_out table c.args.number c.args.start c.args.left c.args.right count c.requires split at out c.if-split-gt0.auto.out front c.expand_row-then-split-out.new.out
+    pair_out c.args.self.now.sound.3 c.requires split at out c.if-split-gt0.auto.out front c.expand_row-then-split-out.new.out
     c.saturating_sub-then-split-out.result (length (take (length out - split) (drop split out))) (length out - split)
     (omega arith) (omega arith) (length_part out split (length out) (omega arith) ∙ ap (λ m. m - split) c.if-split-gt0.auto.out) (omega arith) c.expand_row-then-split-out.ensures
 
 pub expand_pair-returns-else-split-out : goal.expand_pair-returns-else-split-out
 expand_pair-returns-else-split-out t c =
-    let table = c.args.self.now in
-    let rows = in_use table.slots in
+    let rows = in_use c.args.self.now.slots in
     let count = length c.args.out.now in
     let split = c.min-split.result in
     let at : split ≡ min (part_length rows c.args.number c.args.left - c.args.start) count = omega arith in
@@ -51,71 +48,68 @@ expand_pair-returns-else-split-out t c =
     elim c.if-split-gt0.branch [
       | expand_pair-then-split-gt0 w ↦
           ap (take split) w.out-is
-          ∙ front_written table c.args.number c.args.start c.args.left c.args.right count c.requires split at c.args.out.now w.expand_row.new.out _ _ (omega arith) (omega arith) w.expand_row.ensures (omega arith)
-      | expand_pair-else-split-gt0 w ↦ front_empty table c.args.number c.args.start c.args.left c.args.right count c.requires split at out (omega arith)
+          ∙ front_written c.args.self.now.sound.3 c.requires split at c.args.out.now w.expand_row.new.out _ _ (omega arith) (omega arith) w.expand_row.ensures (omega arith)
+      | expand_pair-else-split-gt0 w ↦ front_empty c.args.self.now.sound.3 c.requires split at out (omega arith)
     ] in
-    pair_front_out table c.args.number c.args.start c.args.left c.args.right count c.requires split at out c.if-split-gt0.auto.out front (omega arith)
+    pair_front_out c.args.self.now.sound.3 c.requires split at out c.if-split-gt0.auto.out front (omega arith)
 
 pub expand_repeat-place_in_copy-place-requires : goal.expand_repeat-place_in_copy-place-requires
 expand_repeat-place_in_copy-place-requires t c =
-    (repeat_part c.args.self.now c.args.number c.args.start c.args.part c.args.times (length c.args.out.now) c.requires.asked c.requires.some c.part_length-part_length.result c.part_length-part_length.ensures).0
+    (repeat_part c.args.self.now.sound.3 c.requires.asked c.requires.some c.part_length-part_length.ensures).0
 
 pub expand_repeat-overflow_sub-part_length : goal.expand_repeat-overflow_sub-part_length
 expand_repeat-overflow_sub-part_length t c =
-    let part = repeat_part c.args.self.now c.args.number c.args.start c.args.part c.args.times (length c.args.out.now) c.requires.asked c.requires.some c.part_length-part_length.result c.part_length-part_length.ensures in
+    let part = repeat_part c.args.self.now.sound.3 c.requires.asked c.requires.some c.part_length-part_length.ensures in
     omega (arith, part.0)
 
 pub expand_repeat-expand_row-requires : goal.expand_repeat-expand_row-requires
 expand_repeat-expand_row-requires t c =
-    let part = repeat_part c.args.self.now c.args.number c.args.start c.args.part c.args.times (length c.args.out.now) c.requires.asked c.requires.some c.part_length-part_length.result c.part_length-part_length.ensures in
+    let part = repeat_part c.args.self.now.sound.3 c.requires.asked c.requires.some c.part_length-part_length.ensures in
     (omega (arith, part.1), omega (arith, part.0, part.2, length-take c.min-first.result c.args.out.now))
 
 pub expand_repeat-nonzero_div-part_length : goal.expand_repeat-nonzero_div-part_length
 expand_repeat-nonzero_div-part_length t c =
-    (repeat_part c.args.self.now c.args.number c.args.start c.args.part c.args.times (length c.args.out.now) c.requires.asked c.requires.some c.part_length-part_length.result c.part_length-part_length.ensures).0
+    (repeat_part c.args.self.now.sound.3 c.requires.asked c.requires.some c.part_length-part_length.ensures).0
 
 pub expand_repeat-loop-copy-init : goal.expand_repeat-loop-copy-init
 expand_repeat-loop-copy-init t c =
-    copied_first c.args.self.now c.args.number c.args.start c.args.part c.args.times (length c.args.out.now) c.requires.asked c.requires.some c.part_length-part_length.result c.part_length-part_length.ensures
-    c.args.out.now c.expand_row.new.out c.place_in_copy-place.result c.min-first.result refl c.place_in_copy-place.ensures (omega arith) c.expand_row.ensures (omega arith)
+    copied_first c.args.self.now.sound.3 c.requires.asked c.requires.some c.part_length-part_length.ensures c.args.out.now c.expand_row.new.out c.place_in_copy-place.result c.min-first.result refl c.place_in_copy-place.ensures (omega arith) c.expand_row.ensures (omega arith)
 
 pub expand_repeat-expand_row-requires-in-loop-copy : goal.expand_repeat-expand_row-requires-in-loop-copy
 expand_repeat-expand_row-requires-in-loop-copy t c =
     let l = c.loop-copy in
-    let part = repeat_part c.args.self.now c.args.number c.args.start c.args.part c.args.times (length c.args.out.now) c.requires.asked c.requires.some c.part_length-part_length.result c.part_length-part_length.ensures in
+    let part = repeat_part c.args.self.now.sound.3 c.requires.asked c.requires.some c.part_length-part_length.ensures in
     (omega (arith, part.1), omega (arith, part.2, length-take (c.min-end.result - l.copy) (drop l.copy l.out)))
 
 pub expand_repeat-loop-copy-smaller : goal.expand_repeat-loop-copy-smaller
 expand_repeat-loop-copy-smaller t c =
-    let part = repeat_part c.args.self.now c.args.number c.args.start c.args.part c.args.times (length c.args.out.now) c.requires.asked c.requires.some c.part_length-part_length.result c.part_length-part_length.ensures in
+    let part = repeat_part c.args.self.now.sound.3 c.requires.asked c.requires.some c.part_length-part_length.ensures in
     omega (arith, part.0)
 
 pub expand_repeat-loop-copy-preserved : goal.expand_repeat-loop-copy-preserved
 expand_repeat-loop-copy-preserved t c =
     let l = c.loop-copy in
-    copied_more c.args.self.now c.args.number c.args.start c.args.part c.args.times (length c.args.out.now) c.requires.asked c.requires.some c.part_length-part_length.result c.part_length-part_length.ensures
-    l.out c.expand_row-in-loop-copy.new.out l.copy c.min-end.result l.invariant (omega arith) (omega arith) c.expand_row-in-loop-copy.ensures (omega arith)
+    copied_more c.args.self.now.sound.3 c.requires.asked c.requires.some c.part_length-part_length.ensures l.out c.expand_row-in-loop-copy.new.out l.copy c.min-end.result l.invariant (omega arith) (omega arith) c.expand_row-in-loop-copy.ensures (omega arith)
 
 -- the loop ends before a copy that would begin past the end
 pub expand_repeat-returns-2 : goal.expand_repeat-returns-2
 expand_repeat-returns-2 t c =
     let l = c.loop-copy in
     let last =
-    copied_more c.args.self.now c.args.number c.args.start c.args.part c.args.times (length c.args.out.now) c.requires.asked c.requires.some c.part_length-part_length.result c.part_length-part_length.ensures
-    l.out c.expand_row-in-loop-copy.new.out l.copy c.min-end.result l.invariant (omega arith) (omega arith) c.expand_row-in-loop-copy.ensures (omega arith) in
-    copied_all c.args.self.now c.args.number c.args.start c.args.part c.args.times (length c.args.out.now) c.requires.asked c.requires.some c.part_length-part_length.result c.part_length-part_length.ensures
+    copied_more c.args.self.now.sound.3 c.requires.asked c.requires.some c.part_length-part_length.ensures l.out c.expand_row-in-loop-copy.new.out l.copy c.min-end.result l.invariant (omega arith) (omega arith) c.expand_row-in-loop-copy.ensures (omega arith) in
+    copied_all c.args.self.now.sound.3 c.requires.asked c.requires.some c.part_length-part_length.ensures
     (put_mid l.copy (c.min-end.result - l.copy) l.out c.expand_row-in-loop-copy.new.out) (l.copy + c.part_length-part_length.result) last (omega arith)
 
 pub expand_row-returns-then-is_empty : goal.expand_row-returns-then-is_empty
-expand_row-returns-then-is_empty t c = nothing_out c.args.self.now c.args.number c.args.start c.args.out.now (eqb-true (length c.args.out.now) 0 (sym c.if-is_empty.ensures))
+expand_row-returns-then-is_empty t c = nothing_out (in_use c.args.self.now.slots) c.args.number c.args.start c.args.out.now (eqb-true (length c.args.out.now) 0 (sym c.if-is_empty.ensures))
 
 pub expand_row-returns-in_default : goal.expand_row-returns-in_default
 expand_row-returns-in_default t c =
     let none = ap (λ row. row.length) (row_of_none (in_use c.args.self.now.slots) c.args.number (sym c.in_default.ensures)) in
-    nothing_out c.args.self.now c.args.number c.args.start c.args.out.now (omega arith)
+    nothing_out (in_use c.args.self.now.slots) c.args.number c.args.start c.args.out.now (omega arith)
 
 pub expand_row-returns-in-Leaf : goal.expand_row-returns-in-Leaf
 expand_row-returns-in-Leaf t c =
     let known = row_of_some (in_use c.args.self.now.slots) c.args.number c.in-Some.row (sym c.in-Some.ensures) in
-    leaf_out c.args.self.now c.args.number c.args.start c.in-Leaf.code c.args.out.now (ap (λ row. row.shape) known.2 ∙ c.in-Leaf.is, known.0, known.1, c.requires)
+    leaf_out c.args.self.now.sound.3 c.args.out.now (record { is = ap (λ row. row.shape) known.2 ∙ c.in-Leaf.is; some = known.0; known = known.1; within = c.requires })
     (omega (arith, eqb-false (length c.args.out.now) 0 (sym c.if-is_empty.ensures)))
