@@ -148,7 +148,7 @@ going_none k parts first old = record {
   begins = take_all (length first) first (omega arith);
 }
 
-module _ (k : ℕ) (parts : List ℕ → List Block) (first : List Row) (old : List ℕ) (read write : ℕ) (rows : List Row) (numbers : List ℕ)
+module _ {k : ℕ} {parts : List ℕ → List Block} {first : List Row} {old : List ℕ} {read write : ℕ} {rows : List Row} {numbers : List ℕ}
     (g : Going k parts first old read write rows numbers) where
   -- the pass is over
   pub going_all : parts [] ≡ [] → length numbers ≤ read → Ran k (parts old) first (Some write) rows numbers

@@ -49,7 +49,7 @@ running_none first old = record {
   begins = take_all (length first) first (omega arith);
 }
 
-module _ (first : List Row) (old : List ℕ) (most k size : ℕ) (rows : List Row) (numbers : List ℕ) (g : Running first old most k size rows numbers) where
+module _ {first : List Row} {old : List ℕ} {most k size : ℕ} {rows : List Row} {numbers : List ℕ} (g : Running first old most k size rows numbers) where
   string_long : length (take size numbers) ≡ size
   string_long = length-take-le size numbers (omega (arith, g.few, g.long))
 
