@@ -7,15 +7,11 @@ use Rattle.rows.specs.declared.Shape.{Shape}
 use Rattle.rows.specs.declared.Row.{Row}
 use Rattle.rows.specs.Filing.{alike, find_from, find, blank_row, row_made, numbered, file}
 
--- whether a row has that shape
-abbrev pub has_shape : Shape → Row → Bool
-has_shape shape row = alike row.shape shape
-
-find_from_place : (n : ℕ) (rows : List Row) (shape : Shape) → find_from n rows shape ≡ option_map (λ i. n + i) (position (has_shape shape) rows)
+find_from_place : (n : ℕ) (rows : List Row) (shape : Shape) → find_from n rows shape ≡ option_map (λ i. n + i) (position (λ row. alike row.shape shape) rows)
 find_from_place n [] shape = refl
 find_from_place n (row ∷ rows) shape =
     let further = find_from_place (n + 1) rows shape in
-    let before = position_or_len (has_shape shape) rows in
+    let before = position_or_len (λ row. alike row.shape shape) rows in
     elim (cases_Bool (alike row.shape shape)) [
       | inl same ↦
           let here : n ≡ n + 0 = omega arith in
@@ -34,13 +30,13 @@ find_from_place n (row ∷ rows) shape =
     ]
 
 -- the number of the first row of a shape, from the place of that row
-pub find_at : (rows : List Row) (shape : Shape) (i : ℕ) → Some i ≡ position (has_shape shape) rows → find rows shape ≡ Some (i + 1)
+pub find_place : (rows : List Row) (shape : Shape) → find rows shape ≡ option_map (λ i. i + 1) (position (λ row. alike row.shape shape) rows)
 unfolding find
-find_at rows shape i is = find_from_place 1 rows shape ∙ ap (option_map (λ i. 1 + i)) (sym is) ∙ (let e : 1 + i ≡ i + 1 = omega arith in ap Some e)
-
-pub find_none : (rows : List Row) (shape : Shape) → None ≡ position (has_shape shape) rows → find rows shape ≡ None
-unfolding find
-find_none rows shape is = find_from_place 1 rows shape ∙ ap (option_map (λ i. 1 + i)) (sym is)
+find_place rows shape = find_from_place 1 rows shape ∙ one_more (position (λ row. alike row.shape shape) rows)
+  where
+    one_more : (o : Option ℕ) → option_map (λ i. 1 + i) o ≡ option_map (λ i. i + 1) o
+    one_more None = refl
+    one_more (Some i) = let e : 1 + i ≡ i + 1 = omega arith in ap Some e
 
 -- a row that is added, and a table that is full
 pub numbered_added : (k : ℕ) (rows : List Row) (shape : Shape) → length rows < 1024

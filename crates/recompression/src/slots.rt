@@ -1,9 +1,9 @@
 // The slots of a table: plain data, with no invariant.
-ghost use Rattle.std.specs.Prelude.{◌≡◌, ◌<◌, ◌≤◌, replicate};
-ghost use Rattle.rows.specs.Filing.{blank_row};
+ghost use Rattle.std.specs.Prelude.{◌≡◌, ◌<◌, ◌≤◌, replicate, position, IfSome};
+ghost use Rattle.rows.specs.Filing.{blank_row, alike};
 ghost use Rattle.recompression.specs.Tables.{in_use, appended, truncated};
 
-use rows::{BLANK, MAX_ROWS, Row};
+use rows::{BLANK, MAX_ROWS, Row, Shape};
 
 // Rows, of which the first `count` are in use. The memory is fixed, so that it is an array with a count and no
 // list that grows.
@@ -40,6 +40,15 @@ impl Slots {
         ensures { result.now ≡ in_use self.now }
     {
         &self.rows[..self.count]
+    }
+
+    // The place of the first row of that shape.
+    pub(crate) fn first_of(&self, shape: Shape) -> Option<usize>
+        requires { self.now.count ≤ 1024 }
+        ensures place { result ≡ position (λ row. alike row.shape shape) (in_use self.now) }
+        ensures within { IfSome result (λ i. i < self.now.count) }
+    {
+        self.in_use().iter().position(|row| row.shape == shape)
     }
 
     // Makes the slots after the first `count` blank.

@@ -8,15 +8,11 @@ use rows::{MAX_CELLS, MAX_ROWS, Row, Shape};
 
 impl Table {
     // The number of the first row of that shape.
+    #[tactic(auto, using(crate::proofs::FileFacts::find_place))]
     pub fn find(&self, shape: Shape) -> Option<u16>
         ensures { result ≡ find (rows_in self.now) shape }
     {
-        let index = self
-            .slots
-            .in_use()
-            .iter()
-            .position(|row| row.shape == shape)?;
-        Some(index as u16 + 1)
+        self.slots.first_of(shape).map(|index| index as u16 + 1)
     }
 
     // The length that a row of that shape keeps, from the lengths that its parts keep.
