@@ -100,14 +100,6 @@ expand_repeat-returns-2 t c =
     copied_all c.args.self.now.sound.3 c.requires.asked c.requires.some c.part_length-part_length.ensures
     (put_mid l.copy (c.min-end.result - l.copy) l.out c.expand_row-in-loop-copy.new.out) (l.copy + c.part_length-part_length.result) last (omega arith)
 
-pub expand_row-returns-then-is_empty : goal.expand_row-returns-then-is_empty
-expand_row-returns-then-is_empty t c = nothing_out (in_use c.args.self.now.slots) c.args.number c.args.start c.args.out.now (eqb-true (length c.args.out.now) 0 (sym c.if-is_empty.ensures))
-
-pub expand_row-returns-in_default : goal.expand_row-returns-in_default
-expand_row-returns-in_default t c =
-    let none = ap (λ row. row.length) (row_of_none (in_use c.args.self.now.slots) c.args.number (sym c.in_default.ensures)) in
-    nothing_out (in_use c.args.self.now.slots) c.args.number c.args.start c.args.out.now (omega arith)
-
 pub expand_row-returns-in-Leaf : goal.expand_row-returns-in-Leaf
 expand_row-returns-in-Leaf t c =
     let known = row_of_some (in_use c.args.self.now.slots) c.args.number c.in-Some.row (sym c.in-Some.ensures) in

@@ -12,16 +12,3 @@ invariant_of-self c =
     let s = c.args.self.now.slots in
     let made = ap (λ n. appended s (record { shape = c.args.shape; length = n; round = c.args.round })) c.shape_length-length.ensures in
     record { sound = subst Sound (sym (c.append.ensures ∙ made)) (appended_sound s c.args.round c.args.shape (omega arith) c.args.self.now.sound) }
-
-pub returns : goal.returns
-returns c =
-    let s = c.args.self.now.slots in
-    let sound = c.args.self.now.sound in
-    let long = length_in_use s sound in
-    let room : length (in_use s) < 1024 = omega arith in
-    let made = ap (λ n. appended s (record { shape = c.args.shape; length = n; round = c.args.round })) c.shape_length-length.ensures in
-    let filed = numbered_added c.args.round (in_use s) c.args.shape room in
-    record {
-      number = sym (ap number_in filed ∙ ap (λ n. Some (n + 1)) long);
-      rows = ap in_use (c.append.ensures ∙ made) ∙ appended_rows s (row_made c.args.round (in_use s) c.args.shape) (omega arith) sound ∙ sym (ap (rows_left (in_use s)) filed);
-    }
