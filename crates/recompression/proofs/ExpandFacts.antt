@@ -8,6 +8,7 @@ use Rattle.std.proofs.lemmas.Slice.{take-put_mid}
 use Rattle.std.proofs.lemmas.Bool.{cases_lt}
 use Rattle.std.proofs.lemmas.Nat.{div-add-mod', mod-mul-add}
 use Rattle.std.proofs.Math.Nat.{add-mod_right}
+use Rattle.std.proofs.Math.Seq.{take-add, drop-append-add, take-append-add}
 use Rattle.rows.specs.declared.Shape.{Shape}
 use Rattle.rows.specs.declared.Shape.TheVariants.{Leaf, Pair, Repeat}
 use Rattle.rows.specs.declared.Row.{Row}
@@ -20,16 +21,10 @@ use Rattle.recompression.proofs.LengthFacts.{length_times}
 
 -- past the first of two lists
 drop_past : (xs ys : List ℕ) (n : ℕ) → length xs ≤ n → drop n (xs ++ ys) ≡ drop (n - length xs) ys
-drop_past xs ys n past =
-    let e : n ≡ length xs + (n - length xs) = omega arith in
-    ap (λ m. drop m (xs ++ ys)) e ∙ sym (drop-drop (n - length xs) (length xs) (xs ++ ys)) ∙ ap (drop (n - length xs)) (drop_at xs ys (length xs) refl)
+drop_past xs ys n past = let e : n ≡ length xs + (n - length xs) = omega arith in ap (λ m. drop m (xs ++ ys)) e ∙ drop-append-add xs ys (n - length xs)
 
 take_past : (xs ys : List ℕ) (n : ℕ) → length xs ≤ n → take n (xs ++ ys) ≡ xs ++ take (n - length xs) ys
-take_past [] ys n past = let e : n ≡ n - 0 = omega arith in ap (λ m. take m ys) e
-take_past (x ∷ xs) ys zero past = absurd (omega arith)
-take_past (x ∷ xs) ys (suc n) past =
-    let e : n - length xs ≡ suc n - suc (length xs) = omega arith in
-    ap (λ zs. x ∷ zs) (take_past xs ys n (omega arith) ∙ ap (λ m. xs ++ take m ys) e)
+take_past xs ys n past = let e : n ≡ length xs + (n - length xs) = omega arith in ap (λ m. take m (xs ++ ys)) e ∙ take-append-add xs ys (n - length xs)
 
 -- a part of a list, and the list with it written over
 pub length_part : (xs : List ℕ) (i j : ℕ) → j ≤ length xs → length (take (j - i) (drop i xs)) ≡ j - i
@@ -41,14 +36,8 @@ length_put xs ys i k within long =
     simp (length-append, length-drop) (omega arith)
 
 -- so many from a place on, in two steps
-pub take_in_two : (xs : List ℕ) (i j : ℕ) → i ≤ j → take j xs ≡ take i xs ++ take (j - i) (drop i xs)
-take_in_two xs zero j less = let e : j ≡ j - 0 = omega arith in ap (λ m. take m xs) e
-take_in_two [] (suc i) zero less = absurd (omega arith)
-take_in_two [] (suc i) (suc j) less = sym (take_all (suc j - suc i) [] (omega arith))
-take_in_two (x ∷ xs) (suc i) zero less = absurd (omega arith)
-take_in_two (x ∷ xs) (suc i) (suc j) less =
-    let e : j - i ≡ suc j - suc i = omega arith in
-    ap (λ ys. x ∷ ys) (take_in_two xs i j (omega arith) ∙ ap (λ m. take i xs ++ take m (drop i xs)) e)
+take_in_two : (xs : List ℕ) (i j : ℕ) → i ≤ j → take j xs ≡ take i xs ++ take (j - i) (drop i xs)
+take_in_two xs i j less = let e : j ≡ i + (j - i) = omega arith in ap (λ m. take m xs) e ∙ take-add i (j - i) xs
 
 -- places of two lists, from the first and then from the second, when the length of the first is known as far
 -- as 65,535

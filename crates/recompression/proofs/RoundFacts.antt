@@ -13,11 +13,6 @@ use Rattle.recompression.specs.Contents.{number_in, rows_left}
 use Rattle.recompression.specs.InPlace.{file_block, Partner, block_of, IsFirst, Ran}
 use Rattle.recompression.specs.declared.table.rounds.Block.{Block as Held}
 
--- the class of a number is that of its turn
-pub left_by_turn : (k n turn : ℕ) (left : Bool) → turn ≡ k / 2 - 1 → left ≡ left_at (turn % 22) n → left ≡ is_left k n
-unfolding is_left
-left_by_turn k n turn left is at = at ∙ ap (λ t. left_at (t % 22) n) is
-
 -- the first stretch of a string
 stretch_on : (n m : ℕ) (s : List ℕ) → stretches_from n m s ≡ stretch n (m + prefix_len (λ x. eqb x n) s) ∷ stretches (drop (prefix_len (λ x. eqb x n) s) s)
 stretch_on n m [] = (let e : m ≡ m + 0 = omega arith in ap (λ i. stretch n i ∷ []) e)
@@ -138,15 +133,6 @@ pub record Going (k : ℕ) (parts : List ℕ → List Block) (first : List Row) 
   pub long : length numbers ≡ length old
   pub rest : file_all k (parts old) first ≡ then (file_all k (parts (drop read numbers)) rows) (after (take write numbers))
   pub begins : take (length first) rows ≡ first
-
-pub going_none : (k : ℕ) (parts : List ℕ → List Block) (first : List Row) (old : List ℕ) → Going k parts first old 0 0 first old
-going_none k parts first old = record {
-  behind = omega arith;
-  within = omega arith;
-  long = refl;
-  rest = after_none (file_all k (parts old) first);
-  begins = take_all (length first) first (omega arith);
-}
 
 module _ {k : ℕ} {parts : List ℕ → List Block} {first : List Row} {old : List ℕ} {read write : ℕ} {rows : List Row} {numbers : List ℕ}
     (g : Going k parts first old read write rows numbers) where

@@ -38,17 +38,6 @@ pub record Running (first : List Row) (old : List ℕ) (most k size : ℕ) (rows
   pub rest : all_rounds first old ≡ rounds_from (most - k) k (record { numbers = take size numbers; rows = rows })
   pub begins : take (length first) rows ≡ first
 
-pub running_none : (first : List Row) (old : List ℕ) → Running first old (44 * length old) 0 (length old) first old
-running_none first old = record {
-  few = omega arith;
-  long = refl;
-  rest =
-      let whole : 44 * length old ≡ 44 * length old - 0 = omega arith in
-      ap (λ n. rounds_from n 0 (record { numbers = old; rows = first })) whole
-      ∙ ap (λ ns. rounds_from (44 * length old - 0) 0 (record { numbers = ns; rows = first })) (sym (take_all (length old) old (omega arith)));
-  begins = take_all (length first) first (omega arith);
-}
-
 module _ {first : List Row} {old : List ℕ} {most k size : ℕ} {rows : List Row} {numbers : List ℕ} (g : Running first old most k size rows numbers) where
   string_long : length (take size numbers) ≡ size
   string_long = length-take-le size numbers (omega (arith, g.few, g.long))
