@@ -1,12 +1,12 @@
 -- The code at a place of a row, from the codes of its parts. Assumes nothing.
-use Rattle.std.proofs.Common.{◌≡◌, ℕ, zero, suc, ◌+◌, ◌-◌, ◌*◌, ◌/◌, ◌%◌, ◌<◌, ◌≤◌, min, false, ◌&&◌, ltb, leb, ◌⊎◌, List, [], ◌∷◌, ◌++◌, length, get_or, take, drop, Some, None, sym, refl, ap, ◌∙◌, subst, inl, inr, arith, length-append}
+use Rattle.std.proofs.Common.{◌≡◌, ℕ, zero, suc, ◌+◌, ◌-◌, ◌*◌, ◌/◌, ◌%◌, ◌<◌, ◌≤◌, min, ◌&&◌, ltb, leb, List, [], ◌∷◌, ◌++◌, length, get_or, take, drop, Some, None, sym, refl, ap, ◌∙◌, subst, inl, inr, arith, length-append}
 use Rattle.std.proofs.lemmas.Nat.{mod_below, mod-mul-add, div-add-mod'}
 use Rattle.std.proofs.lemmas.List.{take-append-drop, length-take-le, get_or_append_left, get_or-append_right, get_or_past}
-use Rattle.std.proofs.lemmas.Bool.{cases_Bool, cases_lt, cond-true, cond-false, lt-ltb, le-ltb, ltb-true, ltb-false, leb-true, leb-false, and_parts, and_cases}
+use Rattle.std.proofs.lemmas.Bool.{cases_Bool, cases_lt, cond-true, cond-false, lt-ltb, le-ltb, ltb-true, leb-true, and_parts}
 use Rattle.rows.specs.declared.Shape.{Shape}
 use Rattle.rows.specs.declared.Shape.TheVariants.{Leaf, Pair, Repeat}
 use Rattle.rows.specs.declared.Row.{Row}
-use Rattle.rows.specs.Filing.{blank_row, row_of}
+use Rattle.rows.specs.Filing.{row_of}
 use Rattle.rows.specs.Strips.{times, strips_from, strip}
 use Rattle.rows.proofs.StripFacts.{length_strips, strip_append, strip_added, written_strip, shape_strip, rows_split}
 use Rattle.recompression.specs.Contents.{row_at}
@@ -198,7 +198,7 @@ module _ (rows : List Row) (kept : LengthsKept rows) (n : ℕ) (some : 0 < n) (w
           ∙ in_row place (get_or p (place % part_length rows n part) 0) inside
           (ap (λ xs. get_or xs place 0) repeat_is ∙ at_times count p place part_some (omega (arith, kept n)) ∙ ap (λ k. get_or p k 0) (sym rest_is))
 
--- the row of a known number, and of one that is not
+-- the row of a known number
 pub known_row : (rows : List Row) (n : ℕ) (row : Row) → Some row ≡ row_at rows n → (0 < n) × (n ≤ length rows) × (row ≡ row_of rows n)
 known_row rows n row h =
     elim (cases_Bool (ltb 0 n && leb n (length rows))) [

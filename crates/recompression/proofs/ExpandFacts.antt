@@ -3,7 +3,7 @@
 use Rattle.std.proofs.Common.{◌≡◌, ℕ, zero, suc, ◌+◌, ◌-◌, ◌*◌, ◌/◌, ◌%◌, ◌<◌, ◌≤◌, min, List, [], ◌∷◌, ◌++◌, length, take, drop, set, sym, refl, ap, ◌∙◌, subst, inl, inr, mod-lt, mod-eq_of_lt, arith, length-append, length-drop}
 use native.Mathlib.Nat.{mod-eq-sub-mod}
 use borrow.Rule.Slice.PartMut.{put_mid}
-use Rattle.std.proofs.lemmas.List.{append-nil, drop_all, drop-append-le, drop_at, drop-drop, nil_from_length, take_all, take-append-le, length-take-le}
+use Rattle.std.proofs.lemmas.List.{append-nil, drop_all, drop-append-le, drop-drop, nil_from_length, take_all, take-append-le, length-take-le}
 use Rattle.std.proofs.lemmas.Slice.{take-put_mid}
 use Rattle.std.proofs.lemmas.Bool.{cases_lt}
 use Rattle.std.proofs.lemmas.Nat.{div-add-mod', mod-mul-add}
@@ -123,10 +123,6 @@ pub record Copied (rows : List Row) (n start limit count copy : ℕ) (out : List
   pub long : length out ≡ count
   pub done : take copy out ≡ written_out rows n start (min copy count)
   pub whole : copy < count → (start + copy) % limit ≡ 0
-
--- nothing to write
-pub nothing_out : (rows : List Row) (n start : ℕ) (out : List ℕ) → length out ≡ 0 → out ≡ written_out rows n start (length out)
-nothing_out rows n start out none = nil_from_length out none ∙ sym (ap (λ m. written_out rows n start m) none)
 
 module _ {rows : List Row} {n start : ℕ} (kept : LengthsKept rows) where
   -- the leaf string of a row that is asked for

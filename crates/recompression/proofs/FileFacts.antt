@@ -1,11 +1,11 @@
 -- The number of a shape from the place of its first row, and what filing answers. Assumes nothing.
-use Rattle.std.proofs.Common.{◌≡◌, ℕ, suc, ◌+◌, ◌<◌, ◌≤◌, Bool, true, false, ltb, List, [], ◌∷◌, ◌++◌, length, Some, None, Option, sym, refl, ap, ◌∙◌, inl, inr, arith}
+use Rattle.std.proofs.Common.{◌≡◌, ℕ, suc, ◌+◌, ◌<◌, ◌≤◌, true, ltb, List, [], ◌∷◌, ◌++◌, length, Some, None, Option, sym, refl, ap, ◌∙◌, inl, inr, arith}
 use Rattle.std.specs.List.{position, position_or_len}
 use Rattle.std.specs.Option.{option_map}
 use Rattle.std.proofs.lemmas.Bool.{cases_Bool, cases_lt, cond-true, cond-false, lt-ltb, le-ltb}
 use Rattle.rows.specs.declared.Shape.{Shape}
 use Rattle.rows.specs.declared.Row.{Row}
-use Rattle.rows.specs.Filing.{alike, find_from, find, blank_row, row_made, numbered, file}
+use Rattle.rows.specs.Filing.{alike, find_from, find, row_made, numbered, file}
 
 find_from_place : (n : ℕ) (rows : List Row) (shape : Shape) → find_from n rows shape ≡ option_map (λ i. n + i) (position (λ row. alike row.shape shape) rows)
 find_from_place n [] shape = refl

@@ -1,13 +1,13 @@
 -- Rounds run in place: the class of a number by its turn, the first block of a string, and a pass that reads
 -- ahead of where it writes. Assumes nothing.
-use Rattle.std.proofs.Common.{◌≡◌, ℕ, suc, ◌+◌, ◌-◌, ◌/◌, ◌%◌, ◌<◌, ◌≤◌, Bool, true, false, not, eqb, List, [], ◌∷◌, ◌++◌, length, get_or, take, drop, set, Some, None, Option, sym, refl, ap, ◌∙◌, subst, inl, inr, arith, length-set, length-take, length-drop}
+use Rattle.std.proofs.Common.{◌≡◌, ℕ, suc, ◌+◌, ◌-◌, ◌%◌, ◌<◌, ◌≤◌, true, false, not, eqb, List, [], ◌∷◌, ◌++◌, length, get_or, take, drop, set, Some, None, Option, sym, refl, ap, ◌∙◌, subst, inl, inr, arith, length-set, length-take, length-drop}
 use Rattle.std.specs.List.{prefix_len}
-use Rattle.std.proofs.lemmas.List.{append-nil, append_assoc, take_rest, drop_all, take-append-le, take_all, take_more_set, drop-drop, drop-set-lt}
-use Rattle.std.proofs.lemmas.Bool.{cases_Bool, cond_both, cond-true, cond-false, eq-eqb, ne_eqb, and_from, and_left, and_right, not_from_true, not_from_false}
+use Rattle.std.proofs.lemmas.List.{append-nil, append_assoc, take_rest, drop_all, take-append-le, take_more_set, drop-drop, drop-set-lt}
+use Rattle.std.proofs.lemmas.Bool.{cases_Bool, cond_both, cond-true, cond-false, eq-eqb, and_from, and_left, and_right, not_from_true, not_from_false}
 use Rattle.rows.specs.declared.Shape.TheVariants.{Pair}
 use Rattle.rows.specs.declared.Row.{Row}
-use Rattle.rows.specs.Filing.{Numbered, file}
-use Rattle.rows.specs.Rounds.{Block, one, new, stretch, stretches_from, stretches, left_at, is_left, joins, pairs, pairs_from, blocks, Filed, then, with_number, file_all}
+use Rattle.rows.specs.Filing.{Numbered}
+use Rattle.rows.specs.Rounds.{Block, one, new, stretch, stretches_from, stretches, is_left, joins, pairs, pairs_from, blocks, Filed, then, with_number, file_all}
 use Rattle.rows.proofs.FilingFacts.{file_grows}
 use Rattle.recompression.specs.Contents.{number_in, rows_left}
 use Rattle.recompression.specs.InPlace.{file_block, Partner, block_of, IsFirst, Ran}
@@ -45,11 +45,6 @@ partner_apart k [] long apart = absurd (omega arith)
 partner_apart k (x ∷ []) long apart = absurd (omega arith)
 partner_apart k (x ∷ (y ∷ s)) long apart = cond-false (joins k x y) (new (Pair x y) ∷ pairs k s) (one x ∷ pairs_from k y s) apart
 
-pub partner_none : (k : ℕ) (s : List ℕ) → 0 < length s → length s < 2 → Partner k s None
-partner_none k [] some short = absurd (omega arith)
-partner_none k (x ∷ []) some short = refl
-partner_none k (x ∷ (y ∷ s)) some short = absurd (omega arith)
-
 -- the same from the classes of the first two numbers
 pub partner_joins : (k : ℕ) (s : List ℕ) → 2 ≤ length s → is_left k (get_or s 0 0) ≡ true → is_left k (get_or s 1 0) ≡ false → Partner k s (Some (get_or s 1 0))
 partner_joins k s long left right =
@@ -80,10 +75,6 @@ filed_none (Some f) number = absurd (let z : ◌≡◌ {A = ℕ} 0 1 = cc in ome
 -- blocks filed after numbers that were written
 abbrev pub after : List ℕ → Filed → Option Filed
 after done f = Some (record { numbers = done ++ f.numbers; rows = f.rows })
-
-after_none : (o : Option Filed) → o ≡ then o (after [])
-after_none None = refl
-after_none (Some f) = refl
 
 pub after_more : (done : List ℕ) (n : ℕ) (o : Option Filed) → then (then o (with_number n)) (after done) ≡ then o (after (done ++ (n ∷ [])))
 after_more done n None = refl

@@ -1,7 +1,7 @@
 -- What slots hold after a row is put in or taken off, and how a row in use is read. Assumes nothing.
-use Rattle.std.proofs.Common.{◌≡◌, ℕ, zero, suc, ◌+◌, ◌-◌, ◌<◌, ◌≤◌, true, ◌&&◌, ltb, leb, ◌≢◌, List, [], ◌∷◌, ◌++◌, length, get_or, take, set, replicate, Some, None, sym, refl, ap, ◌∙◌, subst, inl, inr, ⊎_elim, min, arith, length-set, length-append}
-use Rattle.std.proofs.lemmas.List.{take_more_set, take_at, take_all, take-take, length-replicate, get_or-append_right, get_or-take, get_or_past, length-take-le, get_or-set_same, get_or-set_other}
-use Rattle.std.proofs.lemmas.Bool.{cases_Bool, cases_eq, cases_lt, cond-true, cond-false, and_from, and_parts, lt-ltb, le-leb, ltb-true, leb-true}
+use Rattle.std.proofs.Common.{◌≡◌, ℕ, zero, suc, ◌+◌, ◌-◌, ◌<◌, ◌≤◌, true, ◌&&◌, ltb, leb, ◌≢◌, List, [], ◌∷◌, ◌++◌, length, get_or, take, set, replicate, Some, None, sym, refl, ap, ◌∙◌, subst, inl, inr, min, arith, length-set, length-append}
+use Rattle.std.proofs.lemmas.List.{take_more_set, take_at, take_all, take-take, length-replicate, get_or-append_right, length-take-le, get_or-set_other}
+use Rattle.std.proofs.lemmas.Bool.{cases_Bool, cases_lt, cond-true, cond-false, and_from, and_parts, lt-ltb, le-leb, ltb-true, leb-true}
 use Rattle.rows.specs.declared.Shape.{Shape}
 use Rattle.rows.specs.declared.Row.{Row}
 use Rattle.rows.specs.Filing.{blank_row, row_of, row_made}
@@ -75,22 +75,10 @@ module _ (n : ℕ) (s : Slots) (sound : Sound s) where
     subst LengthsKept (sym truncated_rows) (lengths_taken n (in_use s) sound.3),
   )
 
--- the row of a known number, and that of any other
-pub row_read : (rows : List Row) (count n : ℕ) → 0 < n → n ≤ count → get_or rows (n - 1) blank_row ≡ row_of (take count rows) n
-row_read rows count zero some h = absurd (omega arith)
-row_read rows count (suc n) some h = let e : suc n - 1 ≡ n = omega arith in ap (λ k. get_or rows k blank_row) e ∙ sym (get_or-take count rows n blank_row (omega arith))
-
+-- the row of a known number
 pub row_at_known : (rows : List Row) (n : ℕ) → 0 < n → n ≤ length rows → row_at rows n ≡ Some (row_of rows n)
 row_at_known rows n some h =
     cond-true (ltb 0 n && leb n (length rows)) (Some (row_of rows n)) None (and_from (ltb 0 n) (leb n (length rows)) (lt-ltb 0 n some) (le-leb n (length rows) h))
-
-pub row_of_none : (rows : List Row) (n : ℕ) → row_at rows n ≡ None → row_of rows n ≡ blank_row
-row_of_none rows zero e = refl
-row_of_none rows (suc n) e =
-    elim (cases_lt n (length rows)) [
-      | inl known ↦ let other = row_at_known rows (suc n) (omega arith) known in absurd (let z : ◌≡◌ {A = ℕ} 0 1 = cc in omega arith)
-      | inr unknown ↦ get_or_past rows n blank_row unknown
-    ]
 
 pub row_of_some : (rows : List Row) (n : ℕ) (row : Row) → row_at rows n ≡ Some row → (0 < n) × (n ≤ length rows) × (row_of rows n ≡ row)
 row_of_some rows n row e = elim (cases_Bool (ltb 0 n && leb n (length rows))) [

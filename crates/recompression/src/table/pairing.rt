@@ -48,13 +48,7 @@ pub(super) fn first_pair(round: u32, numbers: &[u16]) -> (Block, usize)
 {
     let left = numbers[0];
     match partner(round, numbers) {
-        Some(right) => (
-            Block::New(Shape::Pair {
-                left,
-                right,
-            }),
-            2,
-        ),
+        Some(right) => (Block::New(Shape::Pair { left, right }), 2),
         None => (Block::One(left), 1),
     }
 }

@@ -11,7 +11,7 @@ use crate::table::stretch::first_stretch;
 use rows::Shape;
 
 // A block of a string: a number that stays as it is, or a shape that becomes a row.
-#[derive(Clone, Copy, PartialEq, Eq, Debug)]
+#[derive(Clone, Copy)]
 pub(super) enum Block {
     One(u16),
     New(Shape),

@@ -1,12 +1,12 @@
 -- What is left to show of `expand_pair`, `expand_repeat`, `expand_row`. Assumes nothing.
 use Rattle.std.proofs.Common.{◌≡◌, ◌+◌, ◌-◌, min, length, take, drop, sym, refl, ap, ◌∙◌, arith, length-take}
 use borrow.Rule.Slice.PartMut.{put_mid}
-use Rattle.std.proofs.lemmas.Bool.{eqb-true, eqb-false}
-use Rattle.recompression.specs.Expansions.{part_length, written_out}
+use Rattle.std.proofs.lemmas.Bool.{eqb-false}
+use Rattle.recompression.specs.Expansions.{part_length}
 use Rattle.recompression.specs.Tables.{in_use}
-use Rattle.recompression.proofs.ExpandFacts.{length_part, nothing_out, leaf_out, right_fits, front_written, front_empty, pair_out, pair_front_out, repeat_part, copied_first, copied_more, copied_all}
+use Rattle.recompression.proofs.ExpandFacts.{length_part, leaf_out, right_fits, front_written, front_empty, pair_out, pair_front_out, repeat_part, copied_first, copied_more, copied_all}
 use Rattle.recompression.proofs.LeafFacts.{part_string}
-use Rattle.recompression.proofs.SlotFacts.{row_of_none, row_of_some}
+use Rattle.recompression.proofs.SlotFacts.{row_of_some}
 use Rattle.recompression.proofs.table.Table.+expand_pair_expand_repeat_expand_row.Goals as goal
 use Rattle.recompression.proofs.table.Table.+expand_pair_expand_repeat_expand_row.Goals.{expand_pair-then-split-gt0, expand_pair-else-split-gt0}
 

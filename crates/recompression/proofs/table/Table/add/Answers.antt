@@ -1,10 +1,7 @@
 -- What is left to show of `add`. Assumes nothing.
-use Rattle.std.proofs.Common.{◌+◌, ◌<◌, length, Some, sym, ap, ◌∙◌, subst, arith}
-use Rattle.rows.specs.Filing.{row_made}
-use Rattle.recompression.specs.Contents.{number_in, rows_left}
-use Rattle.recompression.specs.Tables.{in_use, Sound, appended}
-use Rattle.recompression.proofs.FileFacts.{numbered_added}
-use Rattle.recompression.proofs.SlotFacts.{length_in_use, appended_rows, appended_sound}
+use Rattle.std.proofs.Common.{sym, ap, ◌∙◌, subst, arith}
+use Rattle.recompression.specs.Tables.{Sound, appended}
+use Rattle.recompression.proofs.SlotFacts.{appended_sound}
 use Rattle.recompression.proofs.table.Table.add.Goals as goal
 
 pub invariant_of-self : goal.invariant_of-self

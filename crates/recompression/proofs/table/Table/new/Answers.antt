@@ -1,5 +1,5 @@
 -- What is left to show of `new`. Assumes nothing.
-use Rattle.recompression.proofs.SlotFacts.{none_in_use, blank_sound}
+use Rattle.recompression.proofs.SlotFacts.{blank_sound}
 use Rattle.recompression.proofs.table.Table.new.Goals as goal
 
 pub invariant_of-result : goal.invariant_of-result
