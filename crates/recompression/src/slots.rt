@@ -1,5 +1,5 @@
 // The slots of a table: plain data, with no invariant.
-ghost use Rattle.std.specs.Prelude.{◌≡◌, ◌<◌, ◌≤◌, replicate, position, IfSome};
+ghost use Rattle.std.specs.Prelude.{◌≡◌, ◌<◌, ◌≤◌, replicate, position};
 ghost use Rattle.rows.specs.Filing.{blank_row, alike};
 ghost use Rattle.recompression.specs.Tables.{in_use, appended, truncated};
 
@@ -9,7 +9,7 @@ use rows::{BLANK, MAX_ROWS, Row, Shape};
 // list that grows.
 #[derive(Drop)]
 pub struct Slots {
-    pub(crate) rows: [Row; MAX_ROWS],
+    rows: [Row; MAX_ROWS],
     pub(crate) count: usize,
 }
 
@@ -45,8 +45,7 @@ impl Slots {
     // The place of the first row of that shape.
     pub(crate) fn first_of(&self, shape: Shape) -> Option<usize>
         requires { self.now.count ≤ 1024 }
-        ensures place { result ≡ position (λ row. alike row.shape shape) (in_use self.now) }
-        ensures within { IfSome result (λ i. i < self.now.count) }
+        ensures { result ≡ position (λ row. alike row.shape shape) (in_use self.now) }
     {
         self.in_use().iter().position(|row| row.shape == shape)
     }
