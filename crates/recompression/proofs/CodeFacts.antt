@@ -1,12 +1,12 @@
 -- The code at a place of a row, from the codes of its parts. Assumes nothing.
-use Rattle.std.proofs.Common.{◌≡◌, ℕ, zero, suc, ◌+◌, ◌-◌, ◌*◌, ◌/◌, ◌%◌, ◌<◌, ◌≤◌, min, false, ◌&&◌, ltb, leb, ◌⊎◌, List, [], ◌∷◌, ◌++◌, length, get_or, take, drop, Some, None, sym, refl, ap, ◌∙◌, subst, inl, inr, arith, length-append}
+use Rattle.std.proofs.Common.{◌≡◌, ℕ, zero, suc, ◌+◌, ◌-◌, ◌*◌, ◌/◌, ◌%◌, ◌<◌, ◌≤◌, min, ◌&&◌, ltb, leb, List, [], ◌∷◌, ◌++◌, length, get_or, take, drop, Some, None, sym, refl, ap, ◌∙◌, subst, inl, inr, arith, length-append}
 use Rattle.std.proofs.lemmas.Nat.{mod_below, mod-mul-add, div-add-mod'}
 use Rattle.std.proofs.lemmas.List.{take-append-drop, length-take-le, get_or_append_left, get_or-append_right, get_or_past}
-use Rattle.std.proofs.lemmas.Bool.{cases_Bool, cases_lt, cond-true, cond-false, lt-ltb, le-ltb, ltb-true, ltb-false, leb-true, leb-false, and_parts, and_cases}
+use Rattle.std.proofs.lemmas.Bool.{cases_Bool, cases_lt, cond-true, cond-false, lt-ltb, le-ltb, ltb-true, leb-true, and_parts}
 use Rattle.rows.specs.declared.Shape.{Shape}
 use Rattle.rows.specs.declared.Shape.TheVariants.{Leaf, Pair, Repeat}
 use Rattle.rows.specs.declared.Row.{Row}
-use Rattle.rows.specs.Filing.{blank_row, row_of}
+use Rattle.rows.specs.Filing.{row_of}
 use Rattle.rows.specs.Strips.{times, strips_from, strip}
 use Rattle.rows.proofs.StripFacts.{length_strips, strip_append, strip_added, written_strip, shape_strip, rows_split}
 use Rattle.recompression.specs.Contents.{row_at}
@@ -198,7 +198,7 @@ module _ (rows : List Row) (kept : LengthsKept rows) (n : ℕ) (some : 0 < n) (w
           ∙ in_row place (get_or p (place % part_length rows n part) 0) inside
           (ap (λ xs. get_or xs place 0) repeat_is ∙ at_times count p place part_some (omega (arith, kept n)) ∙ ap (λ k. get_or p k 0) (sym rest_is))
 
--- the row of a known number, and of one that is not
+-- the row of a known number
 pub known_row : (rows : List Row) (n : ℕ) (row : Row) → Some row ≡ row_at rows n → (0 < n) × (n ≤ length rows) × (row ≡ row_of rows n)
 known_row rows n row h =
     elim (cases_Bool (ltb 0 n && leb n (length rows))) [
@@ -207,20 +207,6 @@ known_row rows n row h =
           let both = and_parts (ltb 0 n) (leb n (length rows)) known in
           (ltb-true 0 n both.0, leb-true n (length rows) both.1, (let e = h ∙ cond-true (ltb 0 n && leb n (length rows)) (Some (row_of rows n)) None known in let f : row ≡ row_of rows n = cc in f))
     ]
-
-pub unknown_code : (rows : List Row) (n place : ℕ) → None ≡ row_at rows n → None ≡ code_in rows n place
-unknown_code rows n place h =
-    let none : (row_of rows n).length ≡ 0 =
-    elim (cases_Bool (ltb 0 n && leb n (length rows))) [
-      | inl known ↦ absurd (let e = h ∙ cond-true (ltb 0 n && leb n (length rows)) (Some (row_of rows n)) None known in let z : ◌≡◌ {A = ℕ} 0 1 = cc in omega arith)
-      | inr unknown ↦ outside n (and_cases (ltb 0 n) (leb n (length rows)) unknown)
-    ] in
-    sym (cond-false (ltb place (row_of rows n).length) (Some (get_or (strip rows n) place 0)) None (le-ltb place (row_of rows n).length (omega arith)))
-  where
-    outside : (k : ℕ) → (ltb 0 k ≡ false) ⊎ (leb k (length rows) ≡ false) → (row_of rows k).length ≡ 0
-    outside zero either = refl
-    outside (suc k) (inl no_number) = absurd (omega (arith, ltb-false 0 (suc k) no_number))
-    outside (suc k) (inr past) = ap (λ row. row.length) (get_or_past rows k blank_row (omega (arith, leb-false (suc k) (length rows) past)))
 
 -- a row of that shape was read, and keeps the place
 pub record Seen (rows : List Row) (n place : ℕ) (shape : Shape) : Type 0 where
@@ -233,3 +219,20 @@ pub seen : (rows : List Row) (n place : ℕ) (row : Row) (shape : Shape) → Som
 seen rows n place row shape h inside is =
     let known = known_row rows n row h in
     record { some = known.0; within = known.1; inside = subst (λ r. place < r.length) known.2 inside; is = ap (λ r. r.shape) (sym known.2) ∙ is }
+
+-- the code of that place, by the shape
+module _ {rows : List Row} {n place : ℕ} (kept : LengthsKept rows) where
+  pub leaf_seen : {code : ℕ} → Seen rows n place (Leaf code) → Some code ≡ code_in rows n place
+  leaf_seen {code} s = code_leaf rows kept n s.some s.within place s.inside code s.is
+
+  pub left_seen : {left right : ℕ} → Seen rows n place (Pair left right) → place < part_length rows n left → code_in rows left place ≡ code_in rows n place
+  left_seen {left} {right} s = code_left rows kept n s.some s.within place s.inside left right s.is
+
+  pub right_seen : {left right : ℕ} → Seen rows n place (Pair left right) → part_length rows n left ≤ place → (right < n) × (code_in rows right (place - part_length rows n left) ≡ code_in rows n place)
+  right_seen {left} {right} s = code_right rows kept n s.some s.within place s.inside left right s.is
+
+  pub repeat_seen : {part times : ℕ} → Seen rows n place (Repeat part times)
+      → (0 < part_length rows n part) × (part < n) × (code_in rows part (place % part_length rows n part) ≡ code_in rows n place)
+  repeat_seen {part} {times} s =
+      let some = repeat_some rows kept n s.some s.within place s.inside part times s.is in
+      (some, part_falls rows kept n s.some s.within part some, code_repeat rows kept n s.some s.within place s.inside part times s.is)

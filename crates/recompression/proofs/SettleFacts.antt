@@ -1,6 +1,6 @@
 -- Rounds run one after another in place, and what the last of them leaves. Assumes nothing.
-use Rattle.std.proofs.Common.{◌≡◌, ℕ, zero, suc, ◌+◌, ◌-◌, ◌*◌, ◌%◌, ◌<◌, ◌≤◌, eqb, ltb, ◌⊎◌, List, length, get_or, take, Some, None, sym, refl, ap, ◌∙◌, subst, inl, inr, arith, length-take}
-use Rattle.std.proofs.lemmas.List.{take_all, take-take, length-take-le, get_or-take}
+use Rattle.std.proofs.Common.{◌≡◌, ℕ, zero, suc, ◌+◌, ◌-◌, ◌%◌, ◌<◌, ◌≤◌, eqb, ltb, ◌⊎◌, List, ◌++◌, length, get_or, take, drop, Some, None, sym, refl, ap, ◌∙◌, subst, inl, inr, arith, length-take, length-append, length-drop}
+use Rattle.std.proofs.lemmas.List.{take-take, take-append-le, length-take-le}
 use Rattle.std.proofs.lemmas.Bool.{cond-true, cond-false, lt-ltb, le-ltb, eq-eqb, ne_eqb}
 use Rattle.rows.specs.declared.Row.{Row}
 use Rattle.rows.specs.Rounds.{blocks, stretches, pairs, Filed, then, file_all, round, settled, rounds_from}
@@ -35,22 +35,10 @@ rounds_spent k f = refl
 pub record Running (first : List Row) (old : List ℕ) (most k size : ℕ) (rows : List Row) (numbers : List ℕ) : Type 0 where
   pub few : size ≤ length old
   pub long : length numbers ≡ length old
-  pub spent : k ≤ most
   pub rest : all_rounds first old ≡ rounds_from (most - k) k (record { numbers = take size numbers; rows = rows })
   pub begins : take (length first) rows ≡ first
 
-pub running_none : (first : List Row) (old : List ℕ) (most : ℕ) → most ≡ 44 * length old → Running first old most 0 (length old) first old
-running_none first old most enough =
-    let whole : 44 * length old ≡ most - 0 = omega arith in
-    record {
-      few = omega arith;
-      long = refl;
-      spent = omega arith;
-      rest = ap (λ n. rounds_from n 0 (record { numbers = old; rows = first })) whole ∙ ap (λ ns. rounds_from (most - 0) 0 (record { numbers = ns; rows = first })) (sym (take_all (length old) old (omega arith)));
-      begins = take_all (length first) first (omega arith);
-    }
-
-module _ (first : List Row) (old : List ℕ) (most k size : ℕ) (rows : List Row) (numbers : List ℕ) (g : Running first old most k size rows numbers) where
+module _ {first : List Row} {old : List ℕ} {most k size : ℕ} {rows : List Row} {numbers : List ℕ} (g : Running first old most k size rows numbers) where
   string_long : length (take size numbers) ≡ size
   string_long = length-take-le size numbers (omega (arith, g.few, g.long))
 
@@ -60,35 +48,32 @@ module _ (first : List Row) (old : List ℕ) (most k size : ℕ) (rows : List Ro
       g.rest ∙ ap (λ n. rounds_from n k (record { numbers = take size numbers; rows = rows })) turn
       ∙ rounds_more (most - (k + 1)) k (record { numbers = take size numbers; rows = rows }) (omega (arith, string_long))
 
-  pub running_more : 2 ≤ size → k < most → (m : ℕ) (grown : List Row) (after : List ℕ) → length after ≡ length numbers
-      → Ran (k + 1) (blocks (k + 1) (take size numbers)) size rows (Some m) grown after → Running first old most (k + 1) m grown after
-  running_more two more m grown after same ran =
-      let f : Filed = record { numbers = take m after; rows = grown } in
-      let all = file_all_grows (k + 1) (blocks (k + 1) (take size numbers)) rows f ran.1 in
-      record {
-        few = omega (arith, ran.0, g.few);
-        long = same ∙ g.long;
-        spent = omega arith;
-        rest = next_round two more ∙ ap (λ o. then o (rounds_from (most - (k + 1)) (k + 1))) ran.1;
-        begins = subst (λ rs. take (length first) rs ≡ first) (sym all.grows) (begins_with_more first rows all.added g.begins);
-      }
+  module _ (two : 2 ≤ size) (more : k < most) (round : ℕ) (turn : round ≡ k + 1) (grown : List Row) (part : List ℕ) where
+    pub running_more : (m next : ℕ) → next ≡ k + 1 → length part ≡ size → Ran round (blocks round (take size numbers)) rows (Some m) grown part
+        → Running first old most next m grown (part ++ drop size numbers)
+    running_more m next after same ran =
+        let there = subst (λ r. Ran r (blocks r (take size numbers)) rows (Some m) grown part) turn ran in
+        let all = file_all_grows (k + 1) (blocks (k + 1) (take size numbers)) rows (record { numbers = take m part; rows = grown }) there.1 in
+        subst (λ j. Running first old most j m grown (part ++ drop size numbers)) (sym after) (record {
+          few = omega (arith, there.0, g.few);
+          long = simp (length-append, length-drop) (omega (arith, g.few, g.long));
+          rest =
+              next_round two more ∙ ap (λ o. then o (rounds_from (most - (k + 1)) (k + 1))) there.1
+              ∙ ap (λ ns. rounds_from (most - (k + 1)) (k + 1) (record { numbers = ns; rows = grown })) (sym (take-append-le m part (drop size numbers) there.0));
+          begins = subst (λ rs. take (length first) rs ≡ first) (sym all.grows) (begins_with_more first rows all.added g.begins);
+        })
 
-  pub running_full : 2 ≤ size → k < most → (grown : List Row) (after : List ℕ) → Ran (k + 1) (blocks (k + 1) (take size numbers)) size rows None grown after → RunThrough first old None grown
-  running_full two more grown after ran =
-      let shorter : length first ≤ length rows = let l = length-take (length first) rows in let e = ap length g.begins in omega arith in (
-        next_round two more ∙ ap (λ o. then o (rounds_from (most - (k + 1)) (k + 1))) ran.0,
-        sym (take-take (length first) (length rows) grown shorter) ∙ ap (take (length first)) ran.1 ∙ g.begins,
-      )
+    pub running_full : Ran round (blocks round (take size numbers)) rows None grown part → RunThrough first old None grown
+    running_full ran =
+        let there = subst (λ r. Ran r (blocks r (take size numbers)) rows None grown part) turn ran in
+        let shorter : length first ≤ length rows = let l = length-take (length first) rows in let e = ap length g.begins in omega arith in (
+          next_round two more ∙ ap (λ o. then o (rounds_from (most - (k + 1)) (k + 1))) there.0,
+          sym (take-take (length first) (length rows) grown shorter) ∙ ap (take (length first)) there.1 ∙ g.begins,
+        )
 
-  running_done : (size < 2) ⊎ (most ≤ k) → all_rounds first old ≡ Some (record { numbers = take size numbers; rows = rows; rounds = k })
-  running_done done = g.rest ∙ last done
+  pub running_done : (size < 2) ⊎ (most ≤ k) → RunThrough first old (Some (get_or (take size numbers) 0 0)) rows
+  running_done done = (record { numbers = take size numbers; rows = rows; rounds = k }, g.rest ∙ last done, refl, refl)
     where
       last : (size < 2) ⊎ (most ≤ k) → rounds_from (most - k) k (record { numbers = take size numbers; rows = rows }) ≡ Some (record { numbers = take size numbers; rows = rows; rounds = k })
       last (inl short) = rounds_short (most - k) k (record { numbers = take size numbers; rows = rows }) (omega (arith, string_long))
       last (inr over) = let z : most - k ≡ 0 = omega arith in ap (λ n. rounds_from n k (record { numbers = take size numbers; rows = rows })) z ∙ rounds_spent k (record { numbers = take size numbers; rows = rows })
-
-  pub running_empty : size ≡ 0 → RunThrough first old (Some 0) rows
-  running_empty empty = (record { numbers = take size numbers; rows = rows; rounds = k }, running_done (inl (omega arith)), ap (λ n. get_or (take n numbers) 0 0) (sym empty), refl)
-
-  pub running_left : 0 < size → (size < 2) ⊎ (most ≤ k) → RunThrough first old (Some (get_or numbers 0 0)) rows
-  running_left some done = (record { numbers = take size numbers; rows = rows; rounds = k }, running_done done, sym (get_or-take size numbers 0 0 some), refl)

@@ -1,12 +1,12 @@
 -- What slots hold after a row is put in or taken off, and how a row in use is read. Assumes nothing.
-use Rattle.std.proofs.Common.{◌≡◌, ℕ, zero, suc, ◌+◌, ◌-◌, ◌<◌, ◌≤◌, true, ◌&&◌, ltb, leb, ◌≢◌, List, [], ◌∷◌, ◌++◌, length, get_or, take, set, replicate, Some, None, sym, refl, ap, ◌∙◌, subst, inl, inr, ⊎_elim, arith, length-set}
-use Rattle.std.proofs.lemmas.List.{take_more_set, take-take, take-set-le, get_or-take, get_or_past, length-take-le, get_or-set_same, get_or-set_other}
-use Rattle.std.proofs.lemmas.Bool.{cases_Bool, cases_eq, cases_lt, cond-true, cond-false, and_from, and_parts, lt-ltb, le-leb, ltb-true, leb-true}
+use Rattle.std.proofs.Common.{◌≡◌, ℕ, zero, suc, ◌+◌, ◌-◌, ◌<◌, ◌≤◌, true, ◌&&◌, ltb, leb, ◌≢◌, List, [], ◌∷◌, ◌++◌, length, get_or, take, set, replicate, Some, None, sym, refl, ap, ◌∙◌, subst, inl, inr, min, arith, length-set, length-append}
+use Rattle.std.proofs.lemmas.List.{take_more_set, take_at, take_all, take-take, length-replicate, get_or-append_right, length-take-le, get_or-set_other}
+use Rattle.std.proofs.lemmas.Bool.{cases_Bool, cases_lt, cond-true, cond-false, and_from, and_parts, lt-ltb, le-leb, ltb-true, leb-true}
 use Rattle.rows.specs.declared.Shape.{Shape}
 use Rattle.rows.specs.declared.Row.{Row}
 use Rattle.rows.specs.Filing.{blank_row, row_of, row_made}
 use Rattle.recompression.specs.Contents.{row_at}
-use Rattle.recompression.specs.Tables.{in_use, is_blank, LengthsKept, Sound, appended, shortened}
+use Rattle.recompression.specs.Tables.{in_use, is_blank, LengthsKept, Sound, appended, truncated}
 use Rattle.recompression.specs.declared.slots.Slots.{Slots}
 use Rattle.recompression.proofs.LengthFacts.{lengths_none, lengths_added, lengths_taken}
 
@@ -34,12 +34,6 @@ blank_after rows i row after k h =
     let ne : k ≢ i = omega arith in
     rw get_or-set_other (after k (omega arith))
 
--- the row at i is made blank, and those after it were
-blank_more : (rows : List Row) (i : ℕ) → i < length rows → ((k : ℕ) → i + 1 ≤ k → is_blank (get_or rows k blank_row) ≡ true)
-    → (k : ℕ) → i ≤ k → is_blank (get_or (set rows i blank_row) k blank_row) ≡ true
-blank_more rows i within after k h =
-    ⊎_elim (λ (e : k ≡ i). rw (e, get_or-set_same)) (λ (ne : k ≢ i). rw get_or-set_other (after k (omega arith))) (cases_eq k i)
-
 pub length_in_use : (s : Slots) → Sound s → length (in_use s) ≡ s.count
 length_in_use s sound = length-take-le s.count s.rows (omega arith)
 
@@ -51,30 +45,40 @@ appended_sound s k shape room sound =
     let row = row_made k (in_use s) shape in
     (length-set s.rows s.count row ∙ sound.0, omega arith, blank_after s.rows s.count row sound.2, subst LengthsKept (sym (appended_rows s row room sound)) (lengths_added (in_use s) k shape sound.3))
 
-pub shortened_rows : (s : Slots) → in_use (shortened s) ≡ take (s.count - 1) (in_use s)
-shortened_rows s =
-    take-set-le (s.count - 1) s.rows (s.count - 1) blank_row (omega arith) ∙ sym (take-take (s.count - 1) s.count s.rows (omega arith))
+-- slots cut off after the first n rows in use
+module _ (n : ℕ) (s : Slots) (sound : Sound s) where
+  front_long : length (take (min s.count n) s.rows) ≡ min s.count n
+  front_long = length-take-le (min s.count n) s.rows (omega arith)
 
-pub shortened_sound : (s : Slots) → 0 < s.count → Sound s → Sound (shortened s)
-shortened_sound s some sound =
-    (length-set s.rows (s.count - 1) blank_row ∙ sound.0, omega arith, blank_more s.rows (s.count - 1) (omega arith) (λ k h. sound.2 k (omega arith)), subst LengthsKept (sym (shortened_rows s)) (lengths_taken (s.count - 1) (in_use s) sound.3))
+  pub truncated_rows : in_use (truncated n s) ≡ take n (in_use s)
+  truncated_rows =
+      take_at (take (min s.count n) s.rows) (replicate (length s.rows - min s.count n) blank_row) (min s.count n) front_long
+      ∙ elim (cases_lt s.count n) [
+        | inl more ↦
+            let all : min s.count n ≡ s.count = omega arith in
+            ap (λ m. take m s.rows) all ∙ sym (take_all n (in_use s) (omega (arith, length_in_use s sound)))
+        | inr few ↦
+            let first : min s.count n ≡ n = omega arith in
+            ap (λ m. take m s.rows) first ∙ sym (take-take n s.count s.rows few)
+      ]
 
--- the row of a known number, and that of any other
-pub row_read : (rows : List Row) (count n : ℕ) → 0 < n → n ≤ count → get_or rows (n - 1) blank_row ≡ row_of (take count rows) n
-row_read rows count zero some h = absurd (omega arith)
-row_read rows count (suc n) some h = let e : suc n - 1 ≡ n = omega arith in ap (λ k. get_or rows k blank_row) e ∙ sym (get_or-take count rows n blank_row (omega arith))
+  blank_from : (k : ℕ) → min s.count n ≤ k → is_blank (get_or (truncated n s).rows k blank_row) ≡ true
+  blank_from k past =
+      let more = length s.rows - min s.count n in
+      ap is_blank (get_or-append_right (take (min s.count n) s.rows) (replicate more blank_row) (min s.count n) k blank_row front_long past ∙ blank_slots more (k - min s.count n))
 
+  pub truncated_sound : Sound (truncated n s)
+  truncated_sound = (
+    simp (length-append, length-replicate) (omega (arith, front_long, sound.0, sound.1)),
+    omega (arith, sound.1),
+    blank_from,
+    subst LengthsKept (sym truncated_rows) (lengths_taken n (in_use s) sound.3),
+  )
+
+-- the row of a known number
 pub row_at_known : (rows : List Row) (n : ℕ) → 0 < n → n ≤ length rows → row_at rows n ≡ Some (row_of rows n)
 row_at_known rows n some h =
     cond-true (ltb 0 n && leb n (length rows)) (Some (row_of rows n)) None (and_from (ltb 0 n) (leb n (length rows)) (lt-ltb 0 n some) (le-leb n (length rows) h))
-
-pub row_of_none : (rows : List Row) (n : ℕ) → row_at rows n ≡ None → row_of rows n ≡ blank_row
-row_of_none rows zero e = refl
-row_of_none rows (suc n) e =
-    elim (cases_lt n (length rows)) [
-      | inl known ↦ let other = row_at_known rows (suc n) (omega arith) known in absurd (let z : ◌≡◌ {A = ℕ} 0 1 = cc in omega arith)
-      | inr unknown ↦ get_or_past rows n blank_row unknown
-    ]
 
 pub row_of_some : (rows : List Row) (n : ℕ) (row : Row) → row_at rows n ≡ Some row → (0 < n) × (n ≤ length rows) × (row_of rows n ≡ row)
 row_of_some rows n row e = elim (cases_Bool (ltb 0 n && leb n (length rows))) [

@@ -1,5 +1,5 @@
 -- What always holds of a table's slots. Assumes nothing.
-use Rattle.std.specs.Prelude.{◌≡◌, ℕ, ◌+◌, ◌-◌, ◌≤◌, min, Bool, true, false, ◌&&◌, List, length, take, ◌==◌, slice_index_or, slice_set}
+use Rattle.std.specs.Prelude.{◌≡◌, ℕ, ◌+◌, ◌-◌, ◌≤◌, min, Bool, true, false, ◌&&◌, List, ◌++◌, length, take, replicate, ◌==◌, slice_index_or, slice_set}
 use Rattle.rows.specs.declared.Shape.{Shape}
 use Rattle.rows.specs.declared.Shape.TheVariants.{Leaf, Pair, Repeat}
 use Rattle.rows.specs.declared.Row.{Row}
@@ -37,6 +37,6 @@ Sound s =
 abbrev pub appended : Slots → Row → Slots
 appended s row = record { rows = slice_set s.rows s.count row; count = s.count + 1 }
 
--- slots with the last row in use made blank again
-abbrev pub shortened : Slots → Slots
-shortened s = record { rows = slice_set s.rows (s.count - 1) blank_row; count = s.count - 1 }
+-- slots with at most the first n rows in use, and those after them made blank
+abbrev pub truncated : ℕ → Slots → Slots
+truncated n s = record { rows = take (min s.count n) s.rows ++ replicate (length s.rows - min s.count n) blank_row; count = min s.count n }

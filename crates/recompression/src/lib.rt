@@ -6,4 +6,4 @@
 pub mod slots;
 pub mod table;
 
-pub use table::{Table, Unsettled};
+pub use table::{OutOfStrip, Table, Unsettled};

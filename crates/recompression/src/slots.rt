@@ -1,14 +1,15 @@
 // The slots of a table: plain data, with no invariant.
-ghost use Rattle.std.specs.Prelude.{◌≡◌, ◌<◌, ◌≤◌, replicate};
-ghost use Rattle.rows.specs.Filing.{blank_row};
-ghost use Rattle.recompression.specs.Tables.{appended, shortened};
+ghost use Rattle.std.specs.Prelude.{◌≡◌, ◌<◌, ◌≤◌, replicate, position};
+ghost use Rattle.rows.specs.Filing.{blank_row, alike};
+ghost use Rattle.recompression.specs.Tables.{in_use, appended, truncated};
 
-use rows::{BLANK, MAX_ROWS, Row};
+use rows::{BLANK, MAX_ROWS, Row, Shape};
 
-// Rows, of which the first `count` are in use.
+// Rows, of which the first `count` are in use. The memory is fixed, so that it is an array with a count and no
+// list that grows.
 #[derive(Drop)]
 pub struct Slots {
-    pub(crate) rows: [Row; MAX_ROWS],
+    rows: [Row; MAX_ROWS],
     pub(crate) count: usize,
 }
 
@@ -33,13 +34,28 @@ impl Slots {
         self.count += 1;
     }
 
-    // Takes the last row in use off again.
-    pub(crate) fn remove_last(&mut self)
-        requires few { self.old.count ≤ 1024 }
-        requires some { 0 < self.old.count }
-        ensures { self.new ≡ shortened self.old }
+    // The rows in use.
+    pub(crate) fn in_use(&self) -> &[Row]
+        requires { self.now.count ≤ 1024 }
+        ensures { result.now ≡ in_use self.now }
     {
-        self.count -= 1;
-        self.rows[self.count] = BLANK;
+        &self.rows[..self.count]
+    }
+
+    // The place of the first row of that shape.
+    pub(crate) fn first_of(&self, shape: Shape) -> Option<usize>
+        requires { self.now.count ≤ 1024 }
+        ensures { result ≡ position (λ row. alike row.shape shape) (in_use self.now) }
+    {
+        self.in_use().iter().position(|row| row.shape == shape)
+    }
+
+    // Makes the slots after the first `count` blank.
+    pub(crate) fn truncate(&mut self, count: usize)
+        requires { self.old.count ≤ 1024 }
+        ensures { self.new ≡ truncated count self.old }
+    {
+        self.count = self.count.min(count);
+        self.rows[self.count..].fill(BLANK);
     }
 }

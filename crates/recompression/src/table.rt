@@ -2,6 +2,7 @@
 ghost use Rattle.recompression.specs.Tables.{Sound};
 
 use crate::slots::Slots;
+pub use crate::table::expansion::OutOfStrip;
 pub use crate::table::settle::Unsettled;
 
 mod codes;
@@ -9,6 +10,7 @@ mod expansion;
 mod filing;
 mod pairing;
 mod reading;
+mod rounds;
 mod settle;
 mod stretch;
 

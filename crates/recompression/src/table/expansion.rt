@@ -1,12 +1,16 @@
 // A part of a number's strip, written out as the numbers of its leaves.
-ghost use Rattle.std.specs.Prelude.{◌≡◌, ◌+◌, ◌%◌, ◌<◌, ◌≤◌, true, false, length};
+ghost use Rattle.std.specs.Prelude.{◌≡◌, ◌+◌, ◌%◌, ◌<◌, ◌≤◌, length};
 ghost use Rattle.recompression.specs.Contents.{rows_in};
-ghost use Rattle.recompression.specs.Expansions.{Expanded, part_length, written_out};
+ghost use Rattle.recompression.specs.Expansions.{Asked, Expanded, part_length, written_out};
 ghost use Rattle.rows.specs.declared.Shape.TheVariants.{Pair, Repeat};
 ghost use Rattle.rows.specs.Filing.{row_of};
 
 use crate::table::Table;
 use rows::Shape;
+
+// The strip has not all the places asked for.
+#[derive(Clone, Copy, PartialEq, Eq, Debug)]
+pub struct OutOfStrip;
 
 // Where in a copy a place of the copies lies: whole copies are skipped.
 fn place_in_copy(place: usize, copy_length: usize) -> usize
@@ -17,17 +21,17 @@ fn place_in_copy(place: usize, copy_length: usize) -> usize
 }
 
 impl Table {
-    // Fills `out` with the leaf numbers of the places from `start` on of a number's strip, and answers
-    // whether the strip has them all; `out` is left alone where it has not.
-    pub fn expand(&self, number: u16, start: usize, out: &mut [u16]) -> bool
+    // Fills `out` with the leaf numbers of the places from `start` on of a number's strip; `out` is left
+    // alone where the strip has not all of them.
+    pub fn expand(&self, number: u16, start: usize, out: &mut [u16]) -> Result<(), OutOfStrip>
         ensures { Expanded (rows_in self.now) number start out.old result out.new }
     {
         let kept = usize::from(self.length_of(number));
         if start > kept || out.len() > kept - start {
-            return false;
+            return Err(OutOfStrip);
         }
         self.expand_row(number, start, out);
-        true
+        Ok(())
     }
 
     // The length that a part of a row keeps. A part that is not below its row stands for the empty strip.
@@ -65,9 +69,7 @@ impl Table {
     // no place is asked of is not visited.
     #[cycle(expand_pair_expand_repeat_expand_row)]
     fn expand_pair(&self, number: u16, left: u16, right: u16, start: usize, out: &mut [u16])
-        requires row { (row_of (rows_in self.now) number).shape ≡ Pair left right }
-        requires known { (0 < number) × (number ≤ length (rows_in self.now)) }
-        requires within { start + length out.old ≤ (row_of (rows_in self.now) number).length }
+        requires { Asked (rows_in self.now) number (Pair left right) start (length out.old) }
         ensures { out.new ≡ written_out (rows_in self.now) number start (length out.old) }
     {
         let left_length = self.part_length(number, left);
@@ -83,19 +85,18 @@ impl Table {
     // The copies are written out one after the other, the first of them from where the start lies in it.
     #[cycle(expand_pair_expand_repeat_expand_row)]
     fn expand_repeat(&self, number: u16, part: u16, times: u16, start: usize, out: &mut [u16])
-        requires row { (row_of (rows_in self.now) number).shape ≡ Repeat part times }
-        requires known { (0 < number) × (number ≤ length (rows_in self.now)) }
-        requires within { start + length out.old ≤ (row_of (rows_in self.now) number).length }
+        requires asked { Asked (rows_in self.now) number (Repeat part times) start (length out.old) }
         requires some { 0 < length out.old }
         ensures { out.new ≡ written_out (rows_in self.now) number start (length out.old) }
     {
         let part_length = self.part_length(number, part);
-        let mut filled = 0;
-        while filled < out.len() {
-            let place = place_in_copy(start + filled, part_length);
-            let end = out.len().min(filled + part_length - place);
-            self.expand_row(part, place, &mut out[filled..end]);
-            filled = end;
+        let place = place_in_copy(start, part_length);
+        let first = out.len().min(part_length - place);
+        self.expand_row(part, place, &mut out[..first]);
+        // By index, since a proof knows nothing of what is written into `chunks_mut`.
+        for copy in (first..out.len()).step_by(part_length) {
+            let end = out.len().min(copy + part_length);
+            self.expand_row(part, 0, &mut out[copy..end]);
         }
     }
 }

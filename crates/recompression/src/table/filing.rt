@@ -6,24 +6,13 @@ ghost use Rattle.rows.specs.Filing.{alike, find, file, numbered, shape_length};
 use crate::table::Table;
 use rows::{MAX_CELLS, MAX_ROWS, Row, Shape};
 
-// Whether two shapes are the same.
-fn same_shape(one: Shape, other: Shape) -> bool
-    ensures { result ≡ alike one other }
-{
-    one == other
-}
-
 impl Table {
     // The number of the first row of that shape.
+    #[tactic(auto, using(crate::proofs::FileFacts::find_place))]
     pub fn find(&self, shape: Shape) -> Option<u16>
         ensures { result ≡ find (rows_in self.now) shape }
     {
-        for index in 0..self.slots.count {
-            if same_shape(self.slots.rows[index].shape, shape) {
-                return Some(index as u16 + 1);
-            }
-        }
-        None
+        self.slots.first_of(shape).map(|index| index as u16 + 1)
     }
 
     // The length that a row of that shape keeps, from the lengths that its parts keep.
@@ -74,8 +63,6 @@ impl Table {
     pub fn truncate(&mut self, count: usize)
         ensures { rows_in self.new ≡ take count (rows_in self.old) }
     {
-        while self.slots.count > count {
-            self.slots.remove_last();
-        }
+        self.slots.truncate(count);
     }
 }

@@ -28,20 +28,14 @@ impl Table {
     pub fn row(&self, number: u16) -> Option<Row>
         ensures { result ≡ row_at (rows_in self.now) number }
     {
-        let index = usize::from(number);
-        if index == 0 || index > self.slots.count {
-            return None;
-        }
-        Some(self.slots.rows[index - 1])
+        let index = usize::from(number).checked_sub(1)?;
+        self.slots.in_use().get(index).copied()
     }
 
     // The length that a number's row keeps: 0 for number 0 and for one that is not known.
     pub fn length_of(&self, number: u16) -> u16
         ensures { result ≡ (row_of (rows_in self.now) number).length }
     {
-        match self.row(number) {
-            Some(row) => row.length,
-            None => 0,
-        }
+        self.row(number).map_or(0, |row| row.length)
     }
 }

@@ -1,10 +1,9 @@
 // The rounds, run in place on a string of numbers until at most one is left. For known numbers that is always
 // reached; of others, which no shelf passes on, the rounds may leave more, and the first of these is answered.
-ghost use Rattle.std.specs.Prelude.{◌≡◌, ◌%◌, ◌≤◌, length, take, replicate, ◌==◌};
+ghost use Rattle.std.specs.Prelude.{◌≡◌, ◌≤◌, length, replicate};
 ghost use Rattle.recompression.specs.Contents.{rows_in};
-ghost use Rattle.recompression.specs.InPlace.{Ran};
+ghost use Rattle.rows.specs.Rounds.{enough_rounds};
 ghost use Rattle.recompression.specs.Settling.{RunThrough, all_rounds, settling, settling_by};
-ghost use Rattle.rows.specs.Rounds.{blocks, enough_rounds};
 
 use crate::table::Table;
 use rows::MAX_CELLS;
@@ -29,51 +28,20 @@ fn rounds_for(size: usize) -> u32
     ROUNDS_PER_NUMBER * size as u32
 }
 
-// Odd rounds merge stretches, and even rounds make pairs.
-fn merges_stretches(round: u32) -> bool
-    ensures { result ≡ (round % 2 == 1) }
-{
-    round % 2 == 1
-}
-
-// Sets every number to 0.
-fn clear(numbers: &mut [u16])
-    ensures { numbers.new ≡ replicate (length numbers.old) 0 }
-{
-    numbers.fill(0);
-}
-
 impl Table {
-    // Runs one round on the first `size` numbers, and answers how many are left; none where the table is
-    // full.
-    fn run_round(&mut self, round: u32, numbers: &mut [u16], size: usize) -> Option<usize>
-        requires within { size ≤ length numbers.old }
-        requires few { size ≤ 65535 }
-        ensures { Ran round (blocks round (take size numbers.old)) size (rows_in self.old) result (rows_in self.new) numbers.new }
-    {
-        if merges_stretches(round) {
-            self.stretch_round(round, numbers, size)
-        } else {
-            self.pair_round(round, numbers, size)
-        }
-    }
-
     // Runs the rounds, and answers the number that is left; none where the table is full.
     fn run_rounds(&mut self, numbers: &mut [u16]) -> Option<u16>
         requires { length numbers.old ≤ 65535 }
         ensures { RunThrough (rows_in self.old) numbers.old result (rows_in self.new) }
     {
-        let most = rounds_for(numbers.len());
         let mut size = numbers.len();
-        let mut round = 0;
-        while size >= 2 && round < most {
-            round += 1;
-            size = self.run_round(round, numbers, size)?;
+        for round in 1..=rounds_for(size) {
+            if size < 2 {
+                break;
+            }
+            size = self.run_round(round, &mut numbers[..size])?;
         }
-        if size == 0 {
-            return Some(0);
-        }
-        Some(numbers[0])
+        Some(numbers[..size].first().copied().unwrap_or(0))
     }
 
     // Runs the rounds, and takes the rows that they added off again where the table is full.
@@ -83,13 +51,11 @@ impl Table {
         ensures rows { rows_in self.new ≡ (settling_by (rows_in self.old) (all_rounds (rows_in self.old) numbers.old)).rows }
     {
         let count = self.count();
-        match self.run_rounds(numbers) {
-            Some(number) => Ok(number),
-            None => {
-                self.truncate(count);
-                Err(Unsettled::Full)
-            }
-        }
+        let Some(number) = self.run_rounds(numbers) else {
+            self.truncate(count);
+            return Err(Unsettled::Full);
+        };
+        Ok(number)
     }
 
     // The number of a string of numbers, which gets its rows. The work is done in the slice, which is all
@@ -104,7 +70,7 @@ impl Table {
         } else {
             self.run_or_undo(numbers)
         };
-        clear(numbers);
+        numbers.fill(0);
         answer
     }
 }

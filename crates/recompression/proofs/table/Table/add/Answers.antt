@@ -1,10 +1,7 @@
 -- What is left to show of `add`. Assumes nothing.
-use Rattle.std.proofs.Common.{◌+◌, ◌<◌, length, Some, sym, ap, ◌∙◌, subst, arith}
-use Rattle.rows.specs.Filing.{row_made}
-use Rattle.recompression.specs.Contents.{number_in, rows_left}
-use Rattle.recompression.specs.Tables.{in_use, Sound, appended}
-use Rattle.recompression.proofs.FileFacts.{numbered_added}
-use Rattle.recompression.proofs.SlotFacts.{length_in_use, appended_rows, appended_sound}
+use Rattle.std.proofs.Common.{sym, ap, ◌∙◌, subst, arith}
+use Rattle.recompression.specs.Tables.{Sound, appended}
+use Rattle.recompression.proofs.SlotFacts.{appended_sound}
 use Rattle.recompression.proofs.table.Table.add.Goals as goal
 
 pub invariant_of-self : goal.invariant_of-self
@@ -12,16 +9,3 @@ invariant_of-self c =
     let s = c.args.self.now.slots in
     let made = ap (λ n. appended s (record { shape = c.args.shape; length = n; round = c.args.round })) c.shape_length-length.ensures in
     record { sound = subst Sound (sym (c.append.ensures ∙ made)) (appended_sound s c.args.round c.args.shape (omega arith) c.args.self.now.sound) }
-
-pub returns : goal.returns
-returns c =
-    let s = c.args.self.now.slots in
-    let sound = c.args.self.now.sound in
-    let long = length_in_use s sound in
-    let room : length (in_use s) < 1024 = omega arith in
-    let made = ap (λ n. appended s (record { shape = c.args.shape; length = n; round = c.args.round })) c.shape_length-length.ensures in
-    let filed = numbered_added c.args.round (in_use s) c.args.shape room in
-    record {
-      number = sym (ap number_in filed ∙ ap (λ n. Some (n + 1)) long);
-      rows = ap in_use (c.append.ensures ∙ made) ∙ appended_rows s (row_made c.args.round (in_use s) c.args.shape) (omega arith) sound ∙ sym (ap (rows_left (in_use s)) filed);
-    }

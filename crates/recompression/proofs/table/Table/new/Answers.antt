@@ -1,9 +1,6 @@
 -- What is left to show of `new`. Assumes nothing.
-use Rattle.recompression.proofs.SlotFacts.{none_in_use, blank_sound}
+use Rattle.recompression.proofs.SlotFacts.{blank_sound}
 use Rattle.recompression.proofs.table.Table.new.Goals as goal
 
 pub invariant_of-result : goal.invariant_of-result
 invariant_of-result c = record { sound = blank_sound c.new.result c.new.ensures.rows c.new.ensures.count }
-
-pub returns : goal.returns
-returns c = none_in_use c.new.result c.new.ensures.count

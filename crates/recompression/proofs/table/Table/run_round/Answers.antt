@@ -1,19 +1,20 @@
 -- What is left to show of `run_round`. Assumes nothing.
-use Rattle.std.proofs.Common.{◌%◌, take, sym, ◌∙◌, subst}
-use Rattle.std.proofs.lemmas.Bool.{eqb-true, eqb-false}
-use Rattle.recompression.specs.InPlace.{Ran}
 use Rattle.recompression.specs.Tables.{in_use}
-use Rattle.recompression.proofs.SettleFacts.{odd_blocks, even_blocks}
+use Rattle.recompression.proofs.RoundFacts.{going_all, going_more, going_full, no_blocks}
 use Rattle.recompression.proofs.table.Table.run_round.Goals as goal
 
-pub returns-then-merges_stretches : goal.returns-then-merges_stretches
-returns-then-merges_stretches c =
-    let r = c.stretch_round in
-    subst (λ bs. Ran c.args.round bs c.args.size (in_use c.args.self.now.slots) r.result (in_use r.new.self.slots) r.new.numbers)
-    (odd_blocks c.args.round (take c.args.size c.args.numbers.now) (eqb-true (c.args.round % 2) 1 (sym c.merges_stretches.ensures ∙ c.if-merges_stretches.true))) r.ensures
+pub returns-in_err-numbers : goal.returns-in_err-numbers
+returns-in_err-numbers c =
+    let first = c.first_block-block in
+    let filed = c.in_err-numbers.ensures in
+    rw c.from_residual.ensures
+    (going_full c.loop-read.invariant first.result.0 first.result.1 first.ensures (in_use c.file_block.new.self.slots) filed.rows c.loop-read.numbers filed.number)
 
-pub returns-else-merges_stretches : goal.returns-else-merges_stretches
-returns-else-merges_stretches c =
-    let r = c.pair_round in
-    subst (λ bs. Ran c.args.round bs c.args.size (in_use c.args.self.now.slots) r.result (in_use r.new.self.slots) r.new.numbers)
-    (even_blocks c.args.round (take c.args.size c.args.numbers.now) (eqb-false (c.args.round % 2) 1 (sym c.merges_stretches.ensures ∙ c.if-merges_stretches.false))) r.ensures
+pub loop-read-preserved : goal.loop-read-preserved
+loop-read-preserved c =
+    let first = c.first_block-block in
+    let filed = c.in_ok-numbers.ensures in
+    going_more c.loop-read.invariant first.result.0 first.result.1 first.ensures (in_use c.file_block.new.self.slots) filed.rows c.in_ok-numbers.field-0 filed.number
+
+pub returns : goal.returns
+returns c = going_all c.loop-read.invariant (no_blocks c.args.round) c.loop-read-test.false
