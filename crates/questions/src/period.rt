@@ -1,8 +1,10 @@
 // The periods of a fragment.
 
-ghost use Rattle.std.specs.Prelude.{◌≡◌, ℕ, Some, IfOk, IfErr, ◌+◌, ◌-◌, ◌*◌, ◌<◌, ◌≤◌, ◌++◌, length, take, drop, replicate};
+ghost use Rattle.std.specs.Prelude.{◌≡◌, ℕ, List, Some, IfOk, IfErr, ◌+◌, ◌-◌, ◌*◌, ◌<◌, ◌≤◌, ◌++◌, length, take, drop, replicate};
+ghost use Rattle.std.specs.Iterator.{IsFinite, Drains, size};
+ghost use Rattle.periodicity.specs.declared.Progression.{Progression};
 ghost use Rattle.periodicity.specs.Fragments.{cut};
-ghost use Rattle.periodicity.specs.Periods.{periods_in, records_below};
+ghost use Rattle.periodicity.specs.Periods.{periods_in, written_records};
 ghost use Rattle.periodicity.specs.Progressions.{told, triple, mirrored};
 ghost use Rattle.questions.specs.Answers.{PeriodsLaw, PeriodsNamedLaw};
 ghost use Rattle.questions.specs.Outcomes.{outcome, refusal_number, checked, periods_check, after_periods};
@@ -12,6 +14,7 @@ use crate::parts::{Parts, lies_in};
 use crate::refusal::Refusal;
 use keepers::Keeper;
 use periodicity::{Fragment, Progression};
+use std::iter::{once, repeat_n};
 
 // How many records the periods of a fragment take at most: borders are below 2^16, which makes 16 ranges,
 // and border 0 makes the last record.
@@ -29,6 +32,18 @@ fn borders_record(length: usize, borders: Progression) -> Progression
         first: length - greatest,
         step: borders.step,
         count: borders.count,
+    }
+}
+
+// Writes what comes into the first records.
+fn write_first<I: Iterator<Item = Progression> + Drop>(records: &mut [Progression], new: I)
+    requires can { I.can_next new }
+    requires ends { IsFinite (I.remaining new) }
+    requires room { size (I.remaining new) ≤ length records.old }
+    ensures { (xs : List Progression) × Drains I.next_gives new xs × (records.new ≡ xs ++ drop (length xs) records.old) }
+{
+    for (place, record) in new.enumerate() {
+        records[place] = record;
     }
 }
 
@@ -86,32 +101,16 @@ impl<'a, K: Keeper> Part<'a, K> {
         Some(borders_record(self.fragment.length, borders))
     }
 
-    // Writes the records of the 16 ranges, greatest borders first, and says how many there are.
-    fn write_ranges(&self, records: &mut [Progression]) -> usize
+    // Writes the 17 records: one for each range with a border, greatest borders first, then the length's, then
+    // three zeros for each that is not in use.
+    fn write_records(&self, records: &mut [Progression])
         requires room { 17 ≤ length records.old }
-        ensures few { result ≤ 16 }
-        ensures written { take result records.new ++ records_below (cut (K.codes self.now.keeper.now) self.now.fragment) 0 ≡ records_below (cut (K.codes self.now.keeper.now) self.now.fragment) 16 }
-        ensures rest { drop result records.new ≡ drop result records.old }
+        ensures { records.new ≡ written_records (cut (K.codes self.now.keeper.now) self.now.fragment) ++ drop 17 records.old }
     {
-        let mut used = 0;
-        for range in (0..16).rev() {
-            if let Some(record) = self.range_record(range) {
-                records[used] = record;
-                used += 1;
-            }
-        }
-        used
-    }
-}
-
-// Writes three zeros into each of the 17 records from `from` on.
-fn clear_unused(records: &mut [Progression], from: usize)
-    requires some { from ≤ 17 }
-    requires room { 17 ≤ length records.old }
-    ensures { records.new ≡ take from records.old ++ (replicate (17 - from) (triple 0 0 0) ++ drop 17 records.old) }
-{
-    for record in &mut records[from..RECORDS] {
-        *record = Progression::default();
+        let ranges = (0..16).rev().filter_map(|range| self.range_record(range));
+        let used = ranges.chain(once(alone(self.fragment.length)));
+        let unused = repeat_n(Progression::default(), RECORDS);
+        write_first(records, used.chain(unused).take(RECORDS));
     }
 }
 
@@ -132,8 +131,6 @@ pub fn periods<K: Keeper>(
     if records.len() < RECORDS {
         return Err(Refusal::TooFewRecords);
     }
-    let used = part.write_ranges(records);
-    records[used] = alone(fragment.length);
-    clear_unused(records, used + 1);
+    part.write_records(records);
     Ok(())
 }

@@ -8,7 +8,26 @@ use Rattle.questions.proofs.Checks.{answered_unchecked}
 use Rattle.questions.proofs.place.places.Goals as goal
 
 pub returns-clause-value : goal.returns-clause-value
-returns-clause-value g c = ?
+returns-clause-value g c =
+    let parts = c.in_ok-parts.parts in
+    let xs = g.K.Keeper.codes parts.keeper.now in
+    let same = c.in_ok-parts.ensures.parts in
+    let field = parts.second in
+    let near = rw (← same.1, ← same.2) at c.if-field-pattern.false in
+    let unchecked : places_check xs parts.first field ≡ None = grind (arith, nat_tests, parts.first_lies, parts.second_lies) in
+    let size = field.length + 1 - parts.first.length in
+    rw (← same.0, ← same.1, ← same.2)
+    (answered_unchecked (places_check xs parts.first field) c.places.result (told (places_of xs parts.first field)) unchecked
+    (sym (told_tells (is_place xs parts.first) field.start size c.places.result c.places.ensures)))
 
 pub returns-clause-law : goal.returns-clause-law
-returns-clause-law g c = ?
+returns-clause-law g c =
+    let parts = c.in_ok-parts.parts in
+    let xs = g.K.Keeper.codes parts.keeper.now in
+    let same = c.in_ok-parts.ensures.parts in
+    let field = parts.second in
+    let near = rw (← same.1, ← same.2) at c.if-field-pattern.false in
+    let unchecked : places_check xs parts.first field ≡ None = grind (arith, nat_tests, parts.first_lies, parts.second_lies) in
+    let size = field.length + 1 - parts.first.length in
+    rw (← same.0, ← same.1, ← same.2)
+    (unchecked, names_tells (is_place xs parts.first) field.start size c.places.result c.places.ensures)
