@@ -56,16 +56,21 @@ records_listed w (suc t) =
     ∙ kept_first (told (periods_in w t)) (filter_map (λ t. told (periods_in w t)) (down 0 t)) (option_to_list (Some (triple (length w) 0 1)))
     ∙ ap (λ rs. option_to_list (told (periods_in w t)) ++ rs) (records_listed w t)
 
+records_some : (w : List ℕ) (t : ℕ) → 1 ≤ length (records_below w t)
+unfolding records_below
+records_some w zero = omega arith
+records_some w (suc t) = omega (arith, records_some w t, length-append (option_to_list (told (periods_in w t))) (records_below w t))
+
 -- and zeros, 17 of all of them
-pub all_written : (w : List ℕ) → (take 17 (records_of w ++ replicate 17 (triple 0 0 0)) ≡ written_records w) × (length (written_records w) ≡ 17)
+pub all_written : (w : List ℕ) → (take 17 (records_of w ++ replicate 16 (triple 0 0 0)) ≡ written_records w) × (length (written_records w) ≡ 17)
 unfolding written_records
 all_written w =
     let few = records_few w 16 in
+    let some = records_some w 16 in
     let many = length (records_of w) in
     let parts : 17 ≡ many + (17 - many) = omega arith in
-    let zeros = replicate 17 (triple 0 0 0) in
-    (
+    let zeros = replicate 16 (triple 0 0 0) in (
       ap (λ n. take n (records_of w ++ zeros)) parts ∙ take-append-add (records_of w) zeros (17 - many)
-      ∙ ap (λ rs. records_of w ++ rs) (take-replicate (17 - many) 17 (triple 0 0 0) (omega arith)),
+          ∙ ap (λ rs. records_of w ++ rs) (take-replicate (17 - many) 16 (triple 0 0 0) (omega arith)),
       simp (length-append, length-replicate) (omega arith),
     )

@@ -13,6 +13,7 @@ use crate::parts::Parts;
 use crate::refusal::Refusal;
 use keepers::Keeper;
 use periodicity::{Fragment, Progression};
+use std::ops::Range;
 
 // The greatest two overlaps from `least` on.
 #[derive(Clone, Copy)]
@@ -52,13 +53,21 @@ impl<K: Keeper> Parts<'_, K> {
         self.common_ahead(self.first.start, suffix) >= size
     }
 
-    // The greatest length from `least` on and below `end` of an overlap.
-    fn longest_overlap(&self, least: usize, end: usize) -> Option<usize>
-        requires in_first { end ≤ self.now.first.length + 1 }
-        requires in_second { end ≤ self.now.second.length + 1 }
-        ensures { GreatestFrom (is_overlap (cut (K.codes self.now.keeper.now) self.now.first) (cut (K.codes self.now.keeper.now) self.now.second)) least end result }
+    // The lengths to look at: from `least` on and below twice `least`, as far as both fragments have room.
+    fn lengths(&self, least: usize) -> Range<usize>
+        ensures { result ≡ record { start = least; end = min (least + least) (min self.now.first.length self.now.second.length + 1) } }
     {
-        (least..end).rfind(|&size| self.is_overlap(size))
+        let room = self.first.length.min(self.second.length);
+        least..least.saturating_add(least).min(room + 1)
+    }
+
+    // The greatest of the lengths that is one of an overlap.
+    fn longest_overlap(&self, mut lengths: Range<usize>) -> Option<usize>
+        requires in_first { lengths.end ≤ self.now.first.length + 1 }
+        requires in_second { lengths.end ≤ self.now.second.length + 1 }
+        ensures { GreatestFrom (is_overlap (cut (K.codes self.now.keeper.now) self.now.first) (cut (K.codes self.now.keeper.now) self.now.second)) lengths.start lengths.end result }
+    {
+        lengths.rfind(|&size| self.is_overlap(size))
     }
 
     // All overlaps of lengths from `least` on and below twice `least`. The greatest two fix the step, and
@@ -67,14 +76,8 @@ impl<K: Keeper> Parts<'_, K> {
         requires some { 0 < least }
         ensures { Tells (is_overlap (cut (K.codes self.now.keeper.now) self.now.first) (cut (K.codes self.now.keeper.now) self.now.second)) least (least + least) result }
     {
-        let room = self.first.length.min(self.second.length);
-        if least > room {
-            return None;
-        }
-        // Below twice `least`, and as long as both fragments have room for.
-        let end = (least + least).min(room + 1);
-        let longest = self.longest_overlap(least, end)?;
-        let Some(next) = self.longest_overlap(least, longest) else {
+        let longest = self.longest_overlap(self.lengths(least))?;
+        let Some(next) = self.longest_overlap(least..longest) else {
             return Some(alone(longest));
         };
         let two = LongestTwo {

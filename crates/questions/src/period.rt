@@ -1,6 +1,7 @@
 // The periods of a fragment.
 
 ghost use Rattle.std.specs.Prelude.{◌≡◌, ℕ, List, Some, IfOk, IfErr, ◌+◌, ◌-◌, ◌*◌, ◌<◌, ◌≤◌, ◌++◌, length, take, drop, replicate};
+ghost use Rattle.std.specs.Iterator.Adapters.{rev_source, repeat_n_item, repeat_n_count};
 ghost use Rattle.std.specs.Iterator.{IsFinite, Drains, size};
 ghost use Rattle.periodicity.specs.declared.Progression.{Progression};
 ghost use Rattle.periodicity.specs.Fragments.{cut};
@@ -14,7 +15,8 @@ use crate::parts::{Parts, lies_in};
 use crate::refusal::Refusal;
 use keepers::Keeper;
 use periodicity::{Fragment, Progression};
-use std::iter::{once, repeat_n};
+use std::iter::{RepeatN, Rev, once, repeat_n};
+use std::ops::Range;
 
 // How many records the periods of a fragment take at most: borders are below 2^16, which makes 16 ranges,
 // and border 0 makes the last record.
@@ -33,6 +35,21 @@ fn borders_record(length: usize, borders: Progression) -> Progression
         step: borders.step,
         count: borders.count,
     }
+}
+
+// The ranges of borders below 2^16, greatest first.
+fn border_ranges() -> Rev<Range<u32>>
+    ensures { rev_source result ≡ record { start = 0; end = 16 } }
+{
+    (0..16).rev()
+}
+
+// As many records of three zeros as may not be in use: one for each range.
+fn unused() -> RepeatN<Progression>
+    ensures zeros { repeat_n_item result ≡ triple 0 0 0 }
+    ensures count { repeat_n_count result ≡ 16 }
+{
+    repeat_n(Progression::default(), RECORDS - 1)
 }
 
 // Writes what comes into the first records.
@@ -101,16 +118,21 @@ impl<'a, K: Keeper> Part<'a, K> {
         Some(borders_record(self.fragment.length, borders))
     }
 
-    // Writes the 17 records: one for each range with a border, greatest borders first, then the length's, then
-    // three zeros for each that is not in use.
+    // The record of the length itself, whose border is empty.
+    fn length_record(&self) -> Progression
+        ensures { result ≡ triple self.now.fragment.length 0 1 }
+    {
+        alone(self.fragment.length)
+    }
+
+    // Writes the 17 records: one for each range with a border, then the length's, then the unused ones.
     fn write_records(&self, records: &mut [Progression])
         requires room { 17 ≤ length records.old }
         ensures { records.new ≡ written_records (cut (K.codes self.now.keeper.now) self.now.fragment) ++ drop 17 records.old }
     {
-        let ranges = (0..16).rev().filter_map(|range| self.range_record(range));
-        let used = ranges.chain(once(alone(self.fragment.length)));
-        let unused = repeat_n(Progression::default(), RECORDS);
-        write_first(records, used.chain(unused).take(RECORDS));
+        let borders = border_ranges().filter_map(|range| self.range_record(range));
+        let used = borders.chain(once(self.length_record()));
+        write_first(records, used.chain(unused()).take(RECORDS));
     }
 }
 

@@ -1,17 +1,18 @@
 // The places of a pattern in a field.
 
-ghost use Rattle.std.specs.Prelude.{◌≡◌, ◌+◌, ◌-◌, ◌*◌, ◌/◌, ◌<◌, ◌≤◌, min, true, length, nat_le};
+ghost use Rattle.std.specs.Prelude.{◌≡◌, ◌+◌, ◌-◌, ◌*◌, ◌/◌, ◌<◌, ◌≤◌, min, true, length, None};
 ghost use Rattle.periodicity.specs.Places.{is_place};
 ghost use Rattle.periodicity.specs.Progressions.{triple};
 ghost use Rattle.periodicity.specs.Ranges.{LeastFrom, Tells};
 ghost use Rattle.questions.specs.Answers.{PlacesLaw};
-ghost use Rattle.questions.specs.Outcomes.{outcome, places_outcome};
+ghost use Rattle.questions.specs.Outcomes.{outcome, places_check, places_outcome};
 
 use crate::alone::alone;
 use crate::parts::Parts;
 use crate::refusal::Refusal;
 use keepers::Keeper;
 use periodicity::{Fragment, Progression};
+use std::ops::Range;
 
 // The first two places in a field, and the end of the starts that it has room for.
 #[derive(Clone, Copy)]
@@ -53,19 +54,20 @@ impl<K: Keeper> Parts<'_, K> {
         self.common_ahead(self.first.start, i) >= self.first.length
     }
 
-    // The first place from `from` on and below `end`.
-    fn next_place(&self, from: usize, end: usize) -> Option<usize>
-        requires room { end + self.now.first.length ≤ length (K.codes self.now.keeper.now) + 1 }
-        ensures { LeastFrom (is_place (K.codes self.now.keeper.now) self.now.first) from end result }
+    // The first of the starts where the pattern stands.
+    fn first_place(&self, mut starts: Range<usize>) -> Option<usize>
+        requires room { starts.end + self.now.first.length ≤ length (K.codes self.now.keeper.now) + 1 }
+        ensures { LeastFrom (is_place (K.codes self.now.keeper.now) self.now.first) starts.start starts.end result }
     {
-        (from..end).find(|&i| self.is_place(i))
+        starts.find(|&i| self.is_place(i))
     }
 
     // All places in a field shorter than twice the pattern. The first two fix the step, since places so
     // near to each other stand in a progression; how far the strip repeats by that step fixes the count.
     fn places(&self) -> Option<Progression>
         requires near { self.now.second.length < 2 * self.now.first.length }
-        ensures { Tells (is_place (K.codes self.now.keeper.now) self.now.first) self.now.second.start (self.now.second.start + (self.now.second.length + 1 - self.now.first.length)) result }
+        ensures unchecked { places_check (K.codes self.now.keeper.now) self.now.first self.now.second ≡ None }
+        ensures places { Tells (is_place (K.codes self.now.keeper.now) self.now.first) self.now.second.start (self.now.second.start + (self.now.second.length + 1 - self.now.first.length)) result }
     {
         let pattern = self.first;
         let field = self.second;
@@ -73,8 +75,8 @@ impl<K: Keeper> Parts<'_, K> {
             return None;
         }
         let end = field.start + (field.length - pattern.length) + 1;
-        let first = self.next_place(field.start, end)?;
-        let Some(second) = self.next_place(first + 1, end) else {
+        let first = self.first_place(field.start..end)?;
+        let Some(second) = self.first_place(first + 1..end) else {
             return Some(alone(first));
         };
         let agreeing = self.common_ahead(first, second);

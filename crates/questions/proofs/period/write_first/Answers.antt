@@ -40,7 +40,7 @@ loop-place-preserved g c =
         omega (arith, steps.2, kept.2, many),
         omega (arith, kept.3, next.2, many),
         subst (λ i. set c.loop-place.records i c.in-Some.record ≡ (kept.0 ++ c.in-Some.record ∷ []) ++ drop (length (kept.0 ++ c.in-Some.record ∷ [])) c.args.records.now) (sym place)
-        (written_more kept.0 c.args.records.now c.loop-place.records c.in-Some.record (omega (arith, kept.3, next.2, c.requires.room)) kept.4),
+            (written_more kept.0 c.args.records.now c.loop-place.records c.in-Some.record (omega (arith, kept.3, next.2, c.requires.room)) kept.4),
       ),
     )
 

@@ -1,5 +1,4 @@
-use Rattle.std.proofs.Common.{◌≡◌, ◌+◌, ◌-◌, None, sym, arith}
-use Rattle.std.proofs.lemmas.Bool.Decides.{nat_tests}
+use Rattle.std.proofs.Common.{◌≡◌, ◌+◌, ◌-◌, None, sym}
 use Rattle.periodicity.specs.Places.{is_place, places_of}
 use Rattle.periodicity.specs.Progressions.{told}
 use Rattle.periodicity.proofs.Ranges.{told_tells, names_tells}
@@ -13,12 +12,11 @@ returns-clause-value g c =
     let xs = g.K.Keeper.codes parts.keeper.now in
     let same = c.in_ok-parts.ensures.parts in
     let field = parts.second in
-    let near = rw (← same.1, ← same.2) at c.if-field-pattern.false in
-    let unchecked : places_check xs parts.first field ≡ None = grind (arith, nat_tests, parts.first_lies, parts.second_lies) in
+    let unchecked = c.places.ensures.unchecked in
     let size = field.length + 1 - parts.first.length in
     rw (← same.0, ← same.1, ← same.2)
     (answered_unchecked (places_check xs parts.first field) c.places.result (told (places_of xs parts.first field)) unchecked
-    (sym (told_tells (is_place xs parts.first) field.start size c.places.result c.places.ensures)))
+    (sym (told_tells (is_place xs parts.first) field.start size c.places.result c.places.ensures.places)))
 
 pub returns-clause-law : goal.returns-clause-law
 returns-clause-law g c =
@@ -26,8 +24,7 @@ returns-clause-law g c =
     let xs = g.K.Keeper.codes parts.keeper.now in
     let same = c.in_ok-parts.ensures.parts in
     let field = parts.second in
-    let near = rw (← same.1, ← same.2) at c.if-field-pattern.false in
-    let unchecked : places_check xs parts.first field ≡ None = grind (arith, nat_tests, parts.first_lies, parts.second_lies) in
+    let unchecked = c.places.ensures.unchecked in
     let size = field.length + 1 - parts.first.length in
     rw (← same.0, ← same.1, ← same.2)
-    (unchecked, names_tells (is_place xs parts.first) field.start size c.places.result c.places.ensures)
+    (unchecked, names_tells (is_place xs parts.first) field.start size c.places.result c.places.ensures.places)

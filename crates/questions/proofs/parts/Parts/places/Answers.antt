@@ -12,8 +12,8 @@ progression-requires-clause-whole g c =
     places_agree (g.K.Keeper.codes self.keeper.now) self.first c.in_ok-first.first c.in-Some.second c.common_ahead-agreeing.result self.first_lies
     (omega (arith, first.1)) (omega (arith, second.1)) first.2 second.2 c.common_ahead-agreeing.ensures
 
-pub returns : goal.returns
-returns g c =
+pub returns-clause-places : goal.returns-clause-places
+returns-clause-places g c =
     let self = c.args.self.now in
     let xs = g.K.Keeper.codes self.keeper.now in
     let field = self.second in
