@@ -8,12 +8,16 @@ use crate::refusal::Refusal;
 use keepers::Keeper;
 use periodicity::Fragment;
 
-// Whether the fragment lies in the strip; any numbers will do.
-pub(crate) fn lies_in<K: Keeper>(keeper: &K, fragment: Fragment) -> bool
-    ensures { result ≡ inside (K.codes keeper.now) fragment }
+// Refuses a fragment that leaves the strip; any numbers will do.
+pub(crate) fn check_lies<K: Keeper>(keeper: &K, fragment: Fragment) -> Result<(), Refusal>
+    ensures lies { IfOk result (λ _. fragment.start + fragment.length ≤ length (K.codes keeper.now)) }
+    ensures leaves { IfErr result (λ refusal. (refusal ≡ Refusal.FragmentLeavesStrip) × (inside (K.codes keeper.now) fragment ≡ false)) }
 {
     let len = keeper.len();
-    fragment.start <= len && fragment.length <= len - fragment.start
+    if fragment.start > len || fragment.length > len - fragment.start {
+        return Err(Refusal::FragmentLeavesStrip);
+    }
+    Ok(())
 }
 
 // Two fragments that lie in the keeper's strip.
@@ -32,9 +36,8 @@ impl<'a, K: Keeper> Parts<'a, K> {
         ensures parts { IfOk result (λ parts. (parts.keeper.now ≡ keeper.now) × (parts.first ≡ first) × (parts.second ≡ second)) }
         ensures refused { IfErr result (λ refusal. (refusal ≡ Refusal.FragmentLeavesStrip) × ((inside (K.codes keeper.now) first && inside (K.codes keeper.now) second) ≡ false)) }
     {
-        if !lies_in(keeper, first) || !lies_in(keeper, second) {
-            return Err(Refusal::FragmentLeavesStrip);
-        }
+        check_lies(keeper, first)?;
+        check_lies(keeper, second)?;
         Ok(Parts {
             keeper,
             first,

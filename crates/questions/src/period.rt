@@ -11,7 +11,7 @@ ghost use Rattle.questions.specs.Answers.{PeriodsLaw, PeriodsNamedLaw};
 ghost use Rattle.questions.specs.Outcomes.{outcome, refusal_number, checked, periods_check, after_periods};
 
 use crate::alone::alone;
-use crate::parts::{Parts, lies_in};
+use crate::parts::{Parts, check_lies};
 use crate::refusal::Refusal;
 use keepers::Keeper;
 use periodicity::{Fragment, Progression};
@@ -52,7 +52,8 @@ fn unused() -> RepeatN<Progression>
     repeat_n(Progression::default(), RECORDS - 1)
 }
 
-// Writes what comes into the first records.
+// Writes what comes into the first records, one by one. By place, since the check knows nothing of what is
+// written through a zipped `iter_mut`.
 fn write_first<I: Iterator<Item = Progression> + Drop>(records: &mut [Progression], new: I)
     requires can { I.can_next new }
     requires ends { IsFinite (I.remaining new) }
@@ -79,9 +80,7 @@ impl<'a, K: Keeper> Part<'a, K> {
         ensures part { IfOk result (λ part. (part.keeper.now ≡ keeper.now) × (part.fragment ≡ fragment)) }
         ensures refused { IfErr result (λ refusal. (supplied : ℕ) → periods_check (K.codes keeper.now) fragment supplied ≡ Some (refusal_number refusal)) }
     {
-        if !lies_in(keeper, fragment) {
-            return Err(Refusal::FragmentLeavesStrip);
-        }
+        check_lies(keeper, fragment)?;
         if fragment.length == 0 {
             return Err(Refusal::EmptyFragment);
         }

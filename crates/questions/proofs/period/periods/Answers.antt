@@ -10,25 +10,18 @@ use Rattle.questions.proofs.Checks.{answered_unchecked}
 use Rattle.questions.proofs.Writes.{all_written}
 use Rattle.questions.proofs.period.periods.Goals as goal
 
-pub returns : goal.returns
-returns g c =
+pub returns-clause-named : goal.returns-clause-named
+returns-clause-named g c =
     let part = c.in_ok-part.part in
     let same = c.in_ok-part.ensures.part in
     let old = c.args.records.now in
     let after = c.write_records.new.records in
-    let xs = g.K.Keeper.codes c.args.keeper.now in
-    let fragment = c.args.fragment in
-    let w = cut xs fragment in
-    let lies : fragment.start + fragment.length ≤ length xs = rw (same.0, same.1) at part.lies in
-    let some : 1 ≤ fragment.length = rw same.1 at part.some in
-    let unchecked : periods_check xs fragment (length old) ≡ None = grind (arith, nat_tests) in
-    let all : after ≡ written_records w ++ drop 17 old = rw (same.0, same.1) at c.write_records.ensures in
-    let long = length_part xs fragment.start fragment.length lies in
-    let first : take 17 after ≡ written_records w = ap (take 17) all ∙ take_at (written_records w) (drop 17 old) 17 (all_written w).1 in
-    let named = subst (λ rs. PeriodsNamed w rs) (sym first) (written_named w (omega arith) (omega (arith, g.K.Keeper.short c.args.keeper.now))) in
-    record {
-      value = answered_unchecked (periods_check xs fragment (length old)) tt tt unchecked refl;
-      written = all ∙ ap (λ check. after_periods check w old) (sym unchecked);
-      law = (unchecked, named.once);
-      named = (unchecked, named);
-    }
+    let xs = g.K.Keeper.codes part.keeper.now in
+    let w = cut xs part.fragment in
+    let unchecked : periods_check xs part.fragment (length old) ≡ None = grind (arith, nat_tests, part.lies, part.some) in
+    let long = length_part xs part.fragment.start part.fragment.length part.lies in
+    let first : take 17 after ≡ written_records w = ap (take 17) c.write_records.ensures ∙ take_at (written_records w) (drop 17 old) 17 (all_written w).1 in
+    rw (← same.0, ← same.1) (unchecked, subst (λ rs. PeriodsNamed w rs) (sym first) (written_named w (omega (arith, part.some)) (omega (arith, g.K.Keeper.short part.keeper.now))))
+
+pub returns-clause-law : goal.returns-clause-law
+returns-clause-law g c = let named = returns-clause-named g c in (named.0, named.1.once)

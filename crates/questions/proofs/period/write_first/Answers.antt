@@ -43,8 +43,3 @@ loop-place-preserved g c =
             (written_more kept.0 c.args.records.now c.loop-place.records c.in-Some.record (omega (arith, kept.3, next.2, c.requires.room)) kept.4),
       ),
     )
-
-pub returns : goal.returns
-returns g c =
-    let kept = c.loop-place.invariant.2 in
-    (kept.0, (enumerate_source c.next.new.self, (enumerate_source c.loop-place.place-iterator, kept.1, c.in-None.ensures.steps.0)), kept.4)
