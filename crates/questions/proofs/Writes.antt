@@ -1,10 +1,10 @@
 -- The records of the periods, as an iterator gives them. Assumes nothing.
-use Rattle.std.proofs.Common.{◌≡◌, ℕ, ◌+◌, ◌-◌, ◌<◌, ◌≤◌, List, [], ◌∷◌, ◌++◌, length, take, replicate, Some, None, Option, zero, suc, sym, refl, ap, subst, ◌∙◌, arith, length-append, zero-add}
+use Rattle.std.proofs.Common.{◌≡◌, ℕ, ◌+◌, ◌-◌, ◌≤◌, List, [], ◌∷◌, ◌++◌, length, take, replicate, Some, None, Option, zero, suc, sym, refl, ap, subst, ◌∙◌, arith, length-append, zero-add}
 use Rattle.std.proofs.Math.Seq.{take-append-add}
 use lib.ListN.{length-replicate}
-use Rattle.std.proofs.lemmas.List.{take-replicate, length-take-le}
+use Rattle.std.proofs.lemmas.List.{take-replicate}
 use Rattle.std.proofs.lemmas.Iterator.{YieldsList}
-use Rattle.std.proofs.lemmas.Iterator.Consumers.{YieldsList-at, YieldsList-from_shown}
+use Rattle.std.proofs.lemmas.Iterator.Consumers.{YieldsList-from_shown}
 use Rattle.std.proofs.iter.runs.Sources.{nat_range_steps_back}
 use Rattle.std.specs.Iterator.Adapters.{rev_source, rev_steps}
 use Rattle.std.specs.List.{filter_map, cons_option}

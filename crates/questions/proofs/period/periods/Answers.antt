@@ -1,12 +1,11 @@
-use Rattle.std.proofs.Common.{◌≡◌, ◌+◌, ◌≤◌, ◌++◌, length, take, drop, None, sym, refl, ap, ◌∙◌, subst, arith}
+use Rattle.std.proofs.Common.{◌≡◌, length, take, drop, None, sym, ap, ◌∙◌, subst, arith}
 use Rattle.std.proofs.lemmas.List.{take_at}
 use Rattle.std.proofs.lemmas.Bool.Decides.{nat_tests}
 use Rattle.periodicity.specs.Fragments.{cut}
 use Rattle.periodicity.specs.Periods.{written_records, PeriodsNamed}
 use Rattle.periodicity.proofs.RecordsTold.{written_named}
 use Rattle.periodicity.proofs.Sameness.{length_part}
-use Rattle.questions.specs.Outcomes.{periods_check, after_periods}
-use Rattle.questions.proofs.Checks.{answered_unchecked}
+use Rattle.questions.specs.Outcomes.{periods_check}
 use Rattle.questions.proofs.Writes.{all_written}
 use Rattle.questions.proofs.period.periods.Goals as goal
 

@@ -1,8 +1,7 @@
-use Rattle.std.proofs.Common.{◌≡◌, ◌+◌, ◌<◌, ◌≤◌, List, [], ◌∷◌, ◌++◌, length, get_or, drop, set, Some, sym, refl, ap, ◌∙◌, subst, arith, of_calls, append_assoc, length-append}
+use Rattle.std.proofs.Common.{◌≡◌, ◌+◌, ◌<◌, List, [], ◌∷◌, ◌++◌, length, get_or, drop, set, sym, refl, ap, ◌∙◌, subst, arith, append_assoc, length-append}
 use Rattle.std.proofs.lemmas.List.{drop_more, set_at}
 use Rattle.std.proofs.iter.Next.{Yields-more}
-use Rattle.std.specs.Iterator.{size}
-use Rattle.std.specs.Iterator.Adapters.{enumerate_source, enumerate_count}
+use Rattle.std.specs.Iterator.Adapters.{enumerate_source}
 use Rattle.periodicity.specs.declared.Progression.{Progression}
 use Rattle.questions.proofs.period.write_first.Goals as goal
 
@@ -15,15 +14,6 @@ written_more xs old records p room is =
     ∙ set_at xs (get_or old (length xs) p) (drop (length xs + 1) old) p (length xs) refl
     ∙ sym (append_assoc xs (p ∷ []) (drop (length xs + 1) old))
     ∙ ap (λ n. (xs ++ p ∷ []) ++ drop n old) many
-
-pub loop-place-init : goal.loop-place-init
-loop-place-init g c =
-    let made = c.into_iter-place-iterator.ensures.into_iter_gives in
-    let source = ap enumerate_source made ∙ c.enumerate-place-items.ensures.source in (
-      search of_calls,
-      search of_calls,
-      ([], sym source, ap enumerate_count made ∙ c.enumerate-place-items.ensures.count, omega (arith, ap (λ s. size (g.I.Iterator.remaining s)) source), refl),
-    )
 
 pub loop-place-preserved : goal.loop-place-preserved
 loop-place-preserved g c =

@@ -1,4 +1,4 @@
-use Rattle.std.proofs.Common.{◌≡◌, ◌+◌, ◌-◌, None, sym}
+use Rattle.std.proofs.Common.{◌+◌, ◌-◌, sym}
 use Rattle.periodicity.specs.Places.{is_place, places_of}
 use Rattle.periodicity.specs.Progressions.{told}
 use Rattle.periodicity.proofs.Ranges.{told_tells, names_tells}

@@ -1,7 +1,7 @@
-use Rattle.std.proofs.Common.{◌≡◌, ◌+◌, min, Some, sym, refl, subst}
+use Rattle.std.proofs.Common.{◌+◌, Some, sym, refl, subst}
 use Rattle.periodicity.specs.Fragments.{cut}
 use Rattle.periodicity.specs.Overlaps.{is_overlap}
-use Rattle.periodicity.specs.Ranges.{GreatestFrom, Tells}
+use Rattle.periodicity.specs.Ranges.{Tells}
 use Rattle.periodicity.proofs.Extensions.{greatest_overlap}
 use Rattle.periodicity.proofs.OverlapsTold.{overlaps_told}
 use Rattle.periodicity.proofs.Ranges.{tells_one}

@@ -1,4 +1,4 @@
-use Rattle.std.proofs.Common.{◌+◌, Some, None, ap, ◌∙◌, arith}
+use Rattle.std.proofs.Common.{Some, None, ap, ◌∙◌, arith}
 use Rattle.std.proofs.lemmas.Nat.{one_shl}
 use Rattle.periodicity.proofs.RecordsRead.{record_from_borders}
 use Rattle.questions.proofs.period.Part.range_record.Goals as goal

@@ -1,11 +1,11 @@
-use Rattle.std.proofs.Common.{◌≡◌, ℕ, ◌++◌, length, take, drop, replicate, List, ◌∷◌, [], Some, Option, sym, refl, ap, ◌∙◌, arith, rules, tests}
+use Rattle.std.proofs.Common.{◌≡◌, ◌++◌, length, take, drop, replicate, Some, sym, ap, ◌∙◌, rules, tests}
 use Rattle.std.proofs.lemmas.List.{map-id}
-use Rattle.std.proofs.lemmas.Iterator.{YieldsList, YieldsList-from_take, items_from_drains}
+use Rattle.std.proofs.lemmas.Iterator.{YieldsList-from_take, items_from_drains}
 use Rattle.std.proofs.lemmas.Iterator.Consumers.{YieldsList-at, YieldsList-from_chain, YieldsList-from_filter_map}
 use Rattle.std.proofs.lemmas.Iterator.Adapters.{YieldsList-from_once, YieldsList-from_repeat_n}
 use Rattle.periodicity.specs.declared.Progression.{Progression}
 use Rattle.periodicity.specs.Fragments.{cut}
-use Rattle.periodicity.specs.Periods.{periods_in, records_below, written_records}
+use Rattle.periodicity.specs.Periods.{periods_in, written_records}
 use Rattle.periodicity.specs.Progressions.{told, triple}
 use Rattle.periodicity.proofs.Sameness.{length_part}
 use Rattle.questions.proofs.Writes.{yields_down, records_listed, all_written}
