@@ -1,2 +1,3 @@
 mod Checks
+mod Tests
 mod Writes

@@ -1,72 +1,76 @@
--- Records written one after the other. Assumes nothing.
-use Rattle.std.proofs.Common.{◌≡◌, ℕ, ◌+◌, ◌-◌, ◌<◌, ◌≤◌, List, [], ◌∷◌, ◌++◌, length, get_or, take, drop, set, replicate, Some, None, sym, ap, ◌∙◌, subst, arith, length-append, length-set, length-take}
+-- The records of the periods, as an iterator gives them. Assumes nothing.
+use Rattle.std.proofs.Common.{◌≡◌, ℕ, ◌+◌, ◌-◌, ◌≤◌, List, [], ◌∷◌, ◌++◌, length, take, replicate, Some, None, Option, zero, suc, sym, refl, ap, subst, ◌∙◌, arith, length-append, zero-add}
+use Rattle.std.proofs.Math.Seq.{take-append-add}
 use lib.ListN.{length-replicate}
-use Rattle.std.proofs.lemmas.List.{append_assoc, take_more_set, drop-set-lt, drop_more, set_at, replicate_more, length-take-le, drop-drop}
+use Rattle.std.proofs.lemmas.List.{take-replicate}
+use Rattle.std.proofs.lemmas.Iterator.{YieldsList}
+use Rattle.std.proofs.lemmas.Iterator.Consumers.{YieldsList-from_shown}
+use Rattle.std.proofs.iter.runs.Sources.{nat_range_steps_back}
+use Rattle.std.specs.Iterator.Adapters.{rev_source, rev_steps}
+use Rattle.std.specs.List.{filter_map, cons_option}
 use Rattle.std.specs.Option.{option_to_list}
+use Rattle.std.specs.declared.iter.Rev.{Rev}
+use Rattle.std.specs.declared.ops.Range.{Range}
 use Rattle.periodicity.specs.declared.Progression.{Progression}
 use Rattle.periodicity.specs.Periods.{periods_in, records_below, records_of, written_records}
 use Rattle.periodicity.specs.Progressions.{told, triple}
-use Rattle.periodicity.proofs.RecordsTold.{records_step, records_last}
+use Rattle.periodicity.proofs.RecordsTold.{records_few}
 
--- a range has a record, which is written at the next place, or none
-module _ (w : List ℕ) (records all : List Progression) (used t : ℕ) (some : 0 < t) (so_far : take used records ++ records_below w t ≡ all) where
-  pub range_written : (p : Progression) → used < length records → Some p ≡ told (periods_in w (t - 1))
-      → take (used + 1) (set records used p) ++ records_below w (t - 1) ≡ all
-  range_written p room is =
-      ap (λ rs. rs ++ records_below w (t - 1)) (take_more_set records used p room)
-      ∙ append_assoc (take used records) (p ∷ []) (records_below w (t - 1))
-      ∙ ap (λ o. take used records ++ (option_to_list o ++ records_below w (t - 1))) is
-      ∙ ap (λ rs. take used records ++ rs) (sym (records_step w t some))
-      ∙ so_far
+-- the numbers from a on, so many of them, backwards
+abbrev pub down : ℕ → ℕ → List ℕ
+down a zero = []
+down a (suc n) = (a + n) ∷ down a n
 
-  pub range_passed : None ≡ told (periods_in w (t - 1)) → take used records ++ records_below w (t - 1) ≡ all
-  range_passed is =
-      ap (λ o. take used records ++ (option_to_list o ++ records_below w (t - 1))) is
-      ∙ ap (λ rs. take used records ++ rs) (sym (records_step w t some))
-      ∙ so_far
+shown : Range ℕ → List ℕ
+shown r = down r.start (r.end - r.start)
 
--- what is written at a place leaves what comes after it
-pub rest_written : (records old : List Progression) (used : ℕ) (p : Progression) → drop used records ≡ drop used old → drop (used + 1) (set records used p) ≡ drop (used + 1) old
-rest_written records old used p same =
-    drop-set-lt (used + 1) records used p (omega arith) ∙ sym (drop-drop 1 used records) ∙ ap (drop 1) same ∙ drop-drop 1 used old
-
--- one more record is cleared
-pub cleared_more : (records old : List Progression) (z : Progression) (from i : ℕ) → from ≤ i → i < length old
-    → records ≡ take from old ++ (replicate (i - from) z ++ drop i old)
-    → set records i z ≡ take from old ++ (replicate (i + 1 - from) z ++ drop (i + 1) old)
-cleared_more records old z from i lo hi is =
-    let front = take from old ++ replicate (i - from) z in
-    let long : length front ≡ i = simp (length-append, length-take, length-replicate) (omega arith) in
-    let count : i + 1 - from ≡ i - from + 1 = omega arith in
-    let opened : records ≡ front ++ (get_or old i z ∷ drop (i + 1) old) =
-    is ∙ ap (λ rs. take from old ++ (replicate (i - from) z ++ rs)) (drop_more old i z hi) ∙ sym (append_assoc (take from old) (replicate (i - from) z) (get_or old i z ∷ drop (i + 1) old)) in
-    ap (λ rs. set rs i z) opened
-    ∙ set_at front (get_or old i z) (drop (i + 1) old) z i long
-    ∙ append_assoc (take from old) (replicate (i - from) z) (z ∷ drop (i + 1) old)
-    ∙ ap (λ rs. take from old ++ rs) (sym (append_assoc (replicate (i - from) z) (z ∷ []) (drop (i + 1) old)))
-    ∙ ap (λ rs. take from old ++ (rs ++ drop (i + 1) old)) (replicate_more (i - from) z ∙ ap (λ k. replicate k z) (sym count))
-
--- the records of the ranges, the last one and the zeros are the 17 records
-pub all_written : (w : List ℕ) (before middle after old : List Progression) (used : ℕ) → used ≤ 16 → used < length before
-    → take used before ++ records_below w 0 ≡ records_below w 16 → drop used before ≡ drop used old
-    → middle ≡ set before used (triple (length w) 0 1)
-    → after ≡ take (used + 1) middle ++ (replicate (17 - (used + 1)) (triple 0 0 0) ++ drop 17 middle)
-    → after ≡ written_records w ++ drop 17 old
-unfolding written_records
-all_written w before middle after old used few room ranges rest set_last cleared =
-    let last = triple (length w) 0 1 in
-    let front : take (used + 1) middle ≡ records_of w =
-    ap (take (used + 1)) set_last ∙ take_more_set before used last room ∙ ap (λ rs. take used before ++ rs) (sym (records_last w)) ∙ ranges in
-    let counted : used + 1 ≡ length (records_of w) =
-    sym (ap length (sym front) ∙ length-take-le (used + 1) middle (subst (λ rs. used + 1 ≤ length rs) (sym set_last) (simp length-set (omega arith)))) in
-    let tail : drop 17 middle ≡ drop 17 old =
-    ap (drop 17) set_last ∙ drop-set-lt 17 before used last (omega arith)
-    ∙ dropped before ∙ ap (drop (17 - used)) rest ∙ sym (dropped old) in
-    cleared
-    ∙ ap (λ rs. rs ++ (replicate (17 - (used + 1)) (triple 0 0 0) ++ drop 17 middle)) front
-    ∙ ap (λ rs. records_of w ++ (replicate (17 - (used + 1)) (triple 0 0 0) ++ rs)) tail
-    ∙ ap (λ k. records_of w ++ (replicate (17 - k) (triple 0 0 0) ++ drop 17 old)) counted
-    ∙ sym (append_assoc (records_of w) (replicate (17 - length (records_of w)) (triple 0 0 0)) (drop 17 old))
+-- a range from its back gives them
+pub yields_down : {s : Rev (Range ℕ)} (n : ℕ) → rev_source s ≡ record { start = 0; end = n } → YieldsList (rev_steps nat_range_steps_back) (λ x. x) s (down 0 n)
+unfolding shown
+yields_down {s} n e =
+    let all : n - 0 ≡ n = omega arith in
+    subst (λ xs. YieldsList (rev_steps nat_range_steps_back) (λ x. x) s xs) (ap shown e ∙ ap (down 0) all)
+    (YieldsList-from_shown (rev_steps nat_range_steps_back) (λ x. x) (λ s. shown (rev_source s)) stops goes s)
   where
-    dropped : (rs : List Progression) → drop 17 rs ≡ drop (17 - used) (drop used rs)
-    dropped rs = let e : 17 ≡ used + (17 - used) = omega arith in ap (λ k. drop k rs) e ∙ sym (drop-drop (17 - used) used rs)
+    stops : (s t : Rev (Range ℕ)) → rev_steps nat_range_steps_back s None t → length (shown (rev_source s)) ≡ 0
+    stops s t h = ap (λ k. length (down (rev_source s).start k)) h.1.0
+
+    goes : (s : Rev (Range ℕ)) (x : ℕ) (t : Rev (Range ℕ)) → rev_steps nat_range_steps_back s (Some x) t → shown (rev_source s) ≡ x ∷ shown (rev_source t)
+    goes s x t h =
+        let a = (rev_source s).start in
+        let left = (rev_source t).end - (rev_source t).start in
+        let many : (rev_source s).end - (rev_source s).start ≡ suc left = omega (arith, h.0, h.1.0, h.1.2) in
+        let last : a + left ≡ x = omega (arith, h.0, h.1.0, h.1.1, h.1.2) in
+        ap (down a) many ∙ ap (λ k. k ∷ down a left) last ∙ ap (λ k. x ∷ down k left) (sym h.0)
+
+-- the records of the ranges, greatest first, and that of the length
+kept_first : (o : Option Progression) (rs last : List Progression) → cons_option o rs ++ last ≡ option_to_list o ++ (rs ++ last)
+kept_first None rs last = refl
+kept_first (Some p) rs last = refl
+
+pub records_listed : (w : List ℕ) (t : ℕ) → filter_map (λ t. told (periods_in w t)) (down 0 t) ++ option_to_list (Some (triple (length w) 0 1)) ≡ records_below w t
+unfolding records_below
+records_listed w zero = refl
+records_listed w (suc t) =
+    ap (λ k. cons_option (told (periods_in w k)) (filter_map (λ t. told (periods_in w t)) (down 0 t)) ++ option_to_list (Some (triple (length w) 0 1))) (zero-add t)
+    ∙ kept_first (told (periods_in w t)) (filter_map (λ t. told (periods_in w t)) (down 0 t)) (option_to_list (Some (triple (length w) 0 1)))
+    ∙ ap (λ rs. option_to_list (told (periods_in w t)) ++ rs) (records_listed w t)
+
+records_some : (w : List ℕ) (t : ℕ) → 1 ≤ length (records_below w t)
+unfolding records_below
+records_some w zero = omega arith
+records_some w (suc t) = omega (arith, records_some w t, length-append (option_to_list (told (periods_in w t))) (records_below w t))
+
+-- and zeros, 17 of all of them
+pub all_written : (w : List ℕ) → (take 17 (records_of w ++ replicate 16 (triple 0 0 0)) ≡ written_records w) × (length (written_records w) ≡ 17)
+unfolding written_records
+all_written w =
+    let few = records_few w 16 in
+    let some = records_some w 16 in
+    let many = length (records_of w) in
+    let parts : 17 ≡ many + (17 - many) = omega arith in
+    let zeros = replicate 16 (triple 0 0 0) in (
+      ap (λ n. take n (records_of w ++ zeros)) parts ∙ take-append-add (records_of w) zeros (17 - many)
+          ∙ ap (λ rs. records_of w ++ rs) (take-replicate (17 - many) 16 (triple 0 0 0) (omega arith)),
+      simp (length-append, length-replicate) (omega arith),
+    )

@@ -4,8 +4,9 @@
 // absent, or a first number, a step and a count. Nothing is allocated.
 #![tactic(auto)]
 
-mod extension;
+mod alone;
 mod overlap;
+mod parts;
 mod period;
 mod place;
 mod refusal;

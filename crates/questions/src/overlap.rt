@@ -8,43 +8,12 @@ ghost use Rattle.periodicity.specs.Ranges.{GreatestFrom, Tells};
 ghost use Rattle.questions.specs.Answers.{OverlapsLaw};
 ghost use Rattle.questions.specs.Outcomes.{outcome, overlaps_outcome};
 
-use crate::extension::{common_ahead, lies_in};
+use crate::alone::alone;
+use crate::parts::Parts;
 use crate::refusal::Refusal;
 use keepers::Keeper;
 use periodicity::{Fragment, Progression};
-
-// The greatest length from `least` on and below `end` of a suffix of the second fragment that is a prefix
-// of the first.
-fn longest_overlap<K: Keeper>(
-    keeper: &K,
-    first: Fragment,
-    second: Fragment,
-    least: usize,
-    end: usize,
-) -> Option<usize>
-    requires first { first.start + first.length ≤ length (K.codes keeper.now) }
-    requires second { second.start + second.length ≤ length (K.codes keeper.now) }
-    requires in_first { end ≤ first.length + 1 }
-    requires in_second { end ≤ second.length + 1 }
-    ensures { GreatestFrom (is_overlap (cut (K.codes keeper.now) first) (cut (K.codes keeper.now) second)) least end result }
-{
-    for size in (least..end).rev() {
-        let suffix = second.start + (second.length - size);
-        if common_ahead(keeper, first.start, suffix) >= size {
-            return Some(size);
-        }
-    }
-    None
-}
-
-// The end of the lengths to look at: below twice `least`, and as long as both fragments have room for.
-fn lengths_end(least: usize, room: usize) -> usize
-    requires some { least ≤ room }
-    requires short { room ≤ 65535 }
-    ensures { result ≡ min (least + least) (room + 1) }
-{
-    (least + least).min(room + 1)
-}
+use std::ops::Range;
 
 // The greatest two overlaps from `least` on.
 #[derive(Clone, Copy)]
@@ -72,40 +41,52 @@ impl LongestTwo {
     }
 }
 
-// All overlaps of lengths from `least` on and below twice `least`. The greatest two fix the step, and with
-// it all shorter ones, since each is shorter by a period of the greatest.
-pub(crate) fn overlaps_from<K: Keeper>(
-    keeper: &K,
-    first: Fragment,
-    second: Fragment,
-    least: usize,
-) -> Option<Progression>
-    requires first { first.start + first.length ≤ length (K.codes keeper.now) }
-    requires second { second.start + second.length ≤ length (K.codes keeper.now) }
-    requires some { 0 < least }
-    ensures { Tells (is_overlap (cut (K.codes keeper.now) first) (cut (K.codes keeper.now) second)) least (least + least) result }
-{
-    let room = first.length.min(second.length);
-    if least > room {
-        return None;
+// An overlap is a suffix of the second fragment that is a prefix of the first.
+impl<K: Keeper> Parts<'_, K> {
+    // Whether the fragments overlap in so many codes.
+    fn is_overlap(&self, size: usize) -> bool
+        requires in_first { size ≤ self.now.first.length }
+        requires in_second { size ≤ self.now.second.length }
+        ensures { result ≡ is_overlap (cut (K.codes self.now.keeper.now) self.now.first) (cut (K.codes self.now.keeper.now) self.now.second) size }
+    {
+        let suffix = self.second.start + (self.second.length - size);
+        self.common_ahead(self.first.start, suffix) >= size
     }
-    let end = lengths_end(least, room);
-    let Some(longest) = longest_overlap(keeper, first, second, least, end) else {
-        return None;
-    };
-    let Some(next) = longest_overlap(keeper, first, second, least, longest) else {
-        return Some(Progression {
-            first: longest,
-            step: 0,
-            count: 1,
-        });
-    };
-    let two = LongestTwo {
-        longest,
-        next,
-        least,
-    };
-    Some(two.progression())
+
+    // The lengths to look at: from `least` on and below twice `least`, as far as both fragments have room.
+    fn lengths(&self, least: usize) -> Range<usize>
+        ensures { result ≡ record { start = least; end = min (least + least) (min self.now.first.length self.now.second.length + 1) } }
+    {
+        let room = self.first.length.min(self.second.length);
+        least..least.saturating_add(least).min(room + 1)
+    }
+
+    // The greatest of the lengths that is one of an overlap.
+    fn longest_overlap(&self, mut lengths: Range<usize>) -> Option<usize>
+        requires in_first { lengths.end ≤ self.now.first.length + 1 }
+        requires in_second { lengths.end ≤ self.now.second.length + 1 }
+        ensures { GreatestFrom (is_overlap (cut (K.codes self.now.keeper.now) self.now.first) (cut (K.codes self.now.keeper.now) self.now.second)) lengths.start lengths.end result }
+    {
+        lengths.rfind(|&size| self.is_overlap(size))
+    }
+
+    // All overlaps of lengths from `least` on and below twice `least`. The greatest two fix the step, and
+    // with it all shorter ones, since each is shorter by a period of the greatest.
+    pub(crate) fn overlaps_from(&self, least: usize) -> Option<Progression>
+        requires some { 0 < least }
+        ensures { Tells (is_overlap (cut (K.codes self.now.keeper.now) self.now.first) (cut (K.codes self.now.keeper.now) self.now.second)) least (least + least) result }
+    {
+        let longest = self.longest_overlap(self.lengths(least))?;
+        let Some(next) = self.longest_overlap(least..longest) else {
+            return Some(alone(longest));
+        };
+        let two = LongestTwo {
+            longest,
+            next,
+            least,
+        };
+        Some(two.progression())
+    }
 }
 
 // All lengths from `least` to `2 * least - 1` of suffixes of the second fragment that are prefixes of the
@@ -119,11 +100,9 @@ pub fn overlaps<K: Keeper>(
     ensures value { outcome result ≡ overlaps_outcome (K.codes keeper.now) first second least }
     ensures law { OverlapsLaw (K.codes keeper.now) first second least result }
 {
-    if !lies_in(keeper, first) || !lies_in(keeper, second) {
-        return Err(Refusal::FragmentLeavesStrip);
-    }
+    let parts = Parts::of(keeper, first, second)?;
     if least == 0 {
         return Err(Refusal::ZeroOverlap);
     }
-    Ok(overlaps_from(keeper, first, second, least))
+    Ok(parts.overlaps_from(least))
 }

@@ -1,101 +1,137 @@
 // The periods of a fragment.
 
-ghost use Rattle.std.specs.Prelude.{◌≡◌, ◌+◌, ◌-◌, ◌*◌, ◌<◌, ◌≤◌, ◌++◌, length, take, drop, replicate};
+ghost use Rattle.std.specs.Prelude.{◌≡◌, ℕ, List, Some, IfOk, IfErr, ◌+◌, ◌-◌, ◌*◌, ◌<◌, ◌≤◌, ◌++◌, length, take, drop, replicate};
+ghost use Rattle.std.specs.Iterator.Adapters.{rev_source, repeat_n_item, repeat_n_count};
+ghost use Rattle.std.specs.Iterator.{IsFinite, Drains, size};
+ghost use Rattle.periodicity.specs.declared.Progression.{Progression};
 ghost use Rattle.periodicity.specs.Fragments.{cut};
-ghost use Rattle.periodicity.specs.Periods.{periods_in, records_below};
+ghost use Rattle.periodicity.specs.Periods.{periods_in, written_records};
 ghost use Rattle.periodicity.specs.Progressions.{told, triple, mirrored};
 ghost use Rattle.questions.specs.Answers.{PeriodsLaw, PeriodsNamedLaw};
-ghost use Rattle.questions.specs.Outcomes.{outcome, checked, periods_check, after_periods};
+ghost use Rattle.questions.specs.Outcomes.{outcome, refusal_number, checked, periods_check, after_periods};
 
-use crate::extension::lies_in;
-use crate::overlap::overlaps_from;
+use crate::alone::alone;
+use crate::parts::{Parts, check_lies};
 use crate::refusal::Refusal;
 use keepers::Keeper;
 use periodicity::{Fragment, Progression};
+use std::iter::{RepeatN, Rev, once, repeat_n};
+use std::ops::Range;
 
 // How many records the periods of a fragment take at most: borders are below 2^16, which makes 16 ranges,
 // and border 0 makes the last record.
 pub const RECORDS: usize = 17;
 
-// The record of the length itself, whose border is empty.
-fn length_record(fragment: Fragment) -> Progression
-    ensures { result ≡ triple fragment.length 0 1 }
-{
-    Progression {
-        first: fragment.length,
-        step: 0,
-        count: 1,
-    }
-}
-
-// The record of the periods that belong to a progression of borders: the greatest border makes the first.
-fn borders_record(fragment: Fragment, borders: Progression) -> Progression
+// The record of the periods of a fragment of `length` codes that belong to a progression of borders: the
+// greatest border makes the first.
+fn borders_record(length: usize, borders: Progression) -> Progression
     requires some { 1 ≤ borders.count }
-    requires short { borders.first + (borders.count - 1) * borders.step ≤ fragment.length }
-    ensures { result ≡ mirrored fragment.length borders }
+    requires short { borders.first + (borders.count - 1) * borders.step ≤ length }
+    ensures { result ≡ mirrored length borders }
 {
     let greatest = borders.first + (borders.count - 1) * borders.step;
     Progression {
-        first: fragment.length - greatest,
+        first: length - greatest,
         step: borders.step,
         count: borders.count,
     }
 }
 
-// The record of the periods whose borders are from 2^range to 2^(range + 1) - 1. A border shorter than the
-// fragment is an overlap of the fragment without its last code and without its first.
-fn range_record<K: Keeper>(keeper: &K, fragment: Fragment, range: u32) -> Option<Progression>
-    requires lies { fragment.start + fragment.length ≤ length (K.codes keeper.now) }
-    requires some { 1 ≤ fragment.length }
-    requires range { range < 16 }
-    ensures { result ≡ told (periods_in (cut (K.codes keeper.now) fragment) range) }
+// The ranges of borders below 2^16, greatest first.
+fn border_ranges() -> Rev<Range<u32>>
+    ensures { rev_source result ≡ record { start = 0; end = 16 } }
 {
-    let rest = fragment.length - 1;
-    let front = Fragment {
-        start: fragment.start,
-        length: rest,
-    };
-    let back = Fragment {
-        start: fragment.start + 1,
-        length: rest,
-    };
-    let Some(borders) = overlaps_from(keeper, front, back, 1 << range) else {
-        return None;
-    };
-    Some(borders_record(fragment, borders))
+    (0..16).rev()
 }
 
-// Writes the records of the 16 ranges, greatest borders first, and says how many there are.
-fn write_ranges<K: Keeper>(keeper: &K, fragment: Fragment, records: &mut [Progression]) -> usize
-    requires lies { fragment.start + fragment.length ≤ length (K.codes keeper.now) }
-    requires some { 1 ≤ fragment.length }
-    requires room { 17 ≤ length records.old }
-    ensures few { result ≤ 16 }
-    ensures written { take result records.new ++ records_below (cut (K.codes keeper.now) fragment) 0 ≡ records_below (cut (K.codes keeper.now) fragment) 16 }
-    ensures rest { drop result records.new ≡ drop result records.old }
+// As many records of three zeros as may not be in use: one for each range.
+fn unused() -> RepeatN<Progression>
+    ensures zeros { repeat_n_item result ≡ triple 0 0 0 }
+    ensures count { repeat_n_count result ≡ 16 }
 {
-    let mut used = 0;
-    for range in (0..16).rev() {
-        if let Some(record) = range_record(keeper, fragment, range) {
-            records[used] = record;
-            used += 1;
+    repeat_n(Progression::default(), RECORDS - 1)
+}
+
+// Writes what comes into the first records, one by one. By place, since the check knows nothing of what is
+// written through a zipped `iter_mut`.
+fn write_first<I: Iterator<Item = Progression> + Drop>(records: &mut [Progression], new: I)
+    requires can { I.can_next new }
+    requires ends { IsFinite (I.remaining new) }
+    requires room { size (I.remaining new) ≤ length records.old }
+    ensures { (xs : List Progression) × Drains I.next_gives new xs × (records.new ≡ xs ++ drop (length xs) records.old) }
+{
+    for (place, record) in new.enumerate() {
+        records[place] = record;
+    }
+}
+
+// A fragment of at least one code that lies in the keeper's strip.
+#[derive(Drop)]
+struct Part<'a, K: Keeper> {
+    keeper: &'a K,
+    fragment: Fragment,
+    ghost lies: { fragment.start + fragment.length ≤ length (K.codes keeper.now) },
+    ghost some: { 1 ≤ fragment.length },
+}
+
+impl<'a, K: Keeper> Part<'a, K> {
+    // The fragment, unless it leaves the strip or is empty; any numbers will do.
+    fn of(keeper: &'a K, fragment: Fragment) -> Result<Self, Refusal>
+        ensures part { IfOk result (λ part. (part.keeper.now ≡ keeper.now) × (part.fragment ≡ fragment)) }
+        ensures refused { IfErr result (λ refusal. (supplied : ℕ) → periods_check (K.codes keeper.now) fragment supplied ≡ Some (refusal_number refusal)) }
+    {
+        check_lies(keeper, fragment)?;
+        if fragment.length == 0 {
+            return Err(Refusal::EmptyFragment);
+        }
+        Ok(Part { keeper, fragment })
+    }
+
+    // The fragment without its last code and without its first.
+    fn ends(&self) -> Parts<'a, K>
+        ensures keeper { result.keeper.now ≡ self.now.keeper.now }
+        ensures first { result.first ≡ record { start = self.now.fragment.start; length = self.now.fragment.length - 1 } }
+        ensures second { result.second ≡ record { start = self.now.fragment.start + 1; length = self.now.fragment.length - 1 } }
+    {
+        let length = self.fragment.length - 1;
+        Parts {
+            keeper: self.keeper,
+            first: Fragment {
+                start: self.fragment.start,
+                length,
+            },
+            second: Fragment {
+                start: self.fragment.start + 1,
+                length,
+            },
         }
     }
-    used
-}
 
-// Writes three zeros into each of the 17 records from `from` on.
-fn clear_unused(records: &mut [Progression], from: usize)
-    requires some { from ≤ 17 }
-    requires room { 17 ≤ length records.old }
-    ensures { records.new ≡ take from records.old ++ (replicate (17 - from) (triple 0 0 0) ++ drop 17 records.old) }
-{
-    for i in from..RECORDS {
-        records[i] = Progression {
-            first: 0,
-            step: 0,
-            count: 0,
-        };
+    // The record of the periods whose borders are from 2^range to 2^(range + 1) - 1. A border shorter than
+    // the fragment is an overlap of the fragment without its last code and without its first.
+    fn range_record(&self, range: u32) -> Option<Progression>
+        requires range { range < 16 }
+        ensures { result ≡ told (periods_in (cut (K.codes self.now.keeper.now) self.now.fragment) range) }
+    {
+        let borders = self.ends().overlaps_from(1 << range)?;
+        Some(borders_record(self.fragment.length, borders))
+    }
+
+    // The record of the length itself, whose border is empty.
+    fn length_record(&self) -> Progression
+        ensures { result ≡ triple self.now.fragment.length 0 1 }
+    {
+        alone(self.fragment.length)
+    }
+
+    // Writes the 17 records: one for each range with a border, then the length's, then the unused ones.
+    fn write_records(&self, records: &mut [Progression])
+        requires room { 17 ≤ length records.old }
+        ensures { records.new ≡ written_records (cut (K.codes self.now.keeper.now) self.now.fragment) ++ drop 17 records.old }
+    {
+        let borders = border_ranges().filter_map(|range| self.range_record(range));
+        let used = borders.chain(once(self.length_record()));
+        write_first(records, used.chain(unused()).take(RECORDS));
     }
 }
 
@@ -112,17 +148,10 @@ pub fn periods<K: Keeper>(
     ensures law { PeriodsLaw (K.codes keeper.now) fragment (length records.old) records.new result }
     ensures named { PeriodsNamedLaw (K.codes keeper.now) fragment (length records.old) records.new result }
 {
-    if !lies_in(keeper, fragment) {
-        return Err(Refusal::FragmentLeavesStrip);
-    }
-    if fragment.length == 0 {
-        return Err(Refusal::EmptyFragment);
-    }
+    let part = Part::of(keeper, fragment)?;
     if records.len() < RECORDS {
         return Err(Refusal::TooFewRecords);
     }
-    let used = write_ranges(keeper, fragment, records);
-    records[used] = length_record(fragment);
-    clear_unused(records, used + 1);
+    part.write_records(records);
     Ok(())
 }

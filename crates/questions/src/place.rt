@@ -1,30 +1,18 @@
 // The places of a pattern in a field.
 
-ghost use Rattle.std.specs.Prelude.{◌≡◌, ◌+◌, ◌-◌, ◌*◌, ◌/◌, ◌<◌, ◌≤◌, min, true, length, nat_le};
+ghost use Rattle.std.specs.Prelude.{◌≡◌, ◌+◌, ◌-◌, ◌*◌, ◌/◌, ◌<◌, ◌≤◌, min, true, length, None};
 ghost use Rattle.periodicity.specs.Places.{is_place};
 ghost use Rattle.periodicity.specs.Progressions.{triple};
 ghost use Rattle.periodicity.specs.Ranges.{LeastFrom, Tells};
 ghost use Rattle.questions.specs.Answers.{PlacesLaw};
-ghost use Rattle.questions.specs.Outcomes.{outcome, places_outcome};
+ghost use Rattle.questions.specs.Outcomes.{outcome, places_check, places_outcome};
 
-use crate::extension::{common_ahead, lies_in};
+use crate::alone::alone;
+use crate::parts::Parts;
 use crate::refusal::Refusal;
 use keepers::Keeper;
 use periodicity::{Fragment, Progression};
-
-// The first place from `from` on and below `end` where the pattern's codes stand.
-fn next_place<K: Keeper>(keeper: &K, pattern: Fragment, from: usize, end: usize) -> Option<usize>
-    requires pattern { pattern.start + pattern.length ≤ length (K.codes keeper.now) }
-    requires room { end + pattern.length ≤ length (K.codes keeper.now) + 1 }
-    ensures { LeastFrom (is_place (K.codes keeper.now) pattern) from end result }
-{
-    for i in from..end {
-        if common_ahead(keeper, pattern.start, i) >= pattern.length {
-            return Some(i);
-        }
-    }
-    None
-}
+use std::ops::Range;
 
 // The first two places in a field, and the end of the starts that it has room for.
 #[derive(Clone, Copy)]
@@ -56,38 +44,45 @@ impl FirstTwo {
     }
 }
 
-// All places in a field shorter than twice the pattern. The first two fix the step, since places so near
-// to each other stand in a progression; how far the strip repeats by that step fixes the count.
-fn places_in<K: Keeper>(keeper: &K, pattern: Fragment, field: Fragment) -> Option<Progression>
-    requires pattern { pattern.start + pattern.length ≤ length (K.codes keeper.now) }
-    requires room { field.start + field.length ≤ length (K.codes keeper.now) }
-    requires near { field.length < 2 * pattern.length }
-    ensures { Tells (is_place (K.codes keeper.now) pattern) field.start (field.start + (field.length + 1 - pattern.length)) result }
-{
-    if field.length < pattern.length {
-        return None;
+// The first fragment is the pattern, and the second the field.
+impl<K: Keeper> Parts<'_, K> {
+    // Whether the pattern's codes stand at a place.
+    fn is_place(&self, i: usize) -> bool
+        requires { i + self.now.first.length ≤ length (K.codes self.now.keeper.now) }
+        ensures { result ≡ is_place (K.codes self.now.keeper.now) self.now.first i }
+    {
+        self.common_ahead(self.first.start, i) >= self.first.length
     }
-    let end = field.start + (field.length - pattern.length) + 1;
-    let Some(first) = next_place(keeper, pattern, field.start, end) else {
-        return None;
-    };
-    let Some(second) = next_place(keeper, pattern, first + 1, end) else {
-        return Some(Progression {
-            first,
-            step: 0,
-            count: 1,
-        });
-    };
-    let agreeing = common_ahead(keeper, first, second);
-    let two = FirstTwo { first, second, end };
-    Some(two.progression(pattern, agreeing))
-}
 
-// Whether the field is at least twice as long as the pattern; any numbers will do.
-fn is_too_long(field: Fragment, pattern: Fragment) -> bool
-    ensures { result ≡ nat_le (2 * pattern.length) field.length }
-{
-    field.length / 2 >= pattern.length
+    // The first of the starts where the pattern stands.
+    fn first_place(&self, mut starts: Range<usize>) -> Option<usize>
+        requires room { starts.end + self.now.first.length ≤ length (K.codes self.now.keeper.now) + 1 }
+        ensures { LeastFrom (is_place (K.codes self.now.keeper.now) self.now.first) starts.start starts.end result }
+    {
+        starts.find(|&i| self.is_place(i))
+    }
+
+    // All places in a field shorter than twice the pattern. The first two fix the step, since places so
+    // near to each other stand in a progression; how far the strip repeats by that step fixes the count.
+    fn places(&self) -> Option<Progression>
+        requires near { self.now.second.length < 2 * self.now.first.length }
+        ensures unchecked { places_check (K.codes self.now.keeper.now) self.now.first self.now.second ≡ None }
+        ensures places { Tells (is_place (K.codes self.now.keeper.now) self.now.first) self.now.second.start (self.now.second.start + (self.now.second.length + 1 - self.now.first.length)) result }
+    {
+        let pattern = self.first;
+        let field = self.second;
+        if field.length < pattern.length {
+            return None;
+        }
+        let end = field.start + (field.length - pattern.length) + 1;
+        let first = self.first_place(field.start..end)?;
+        let Some(second) = self.first_place(first + 1..end) else {
+            return Some(alone(first));
+        };
+        let agreeing = self.common_ahead(first, second);
+        let two = FirstTwo { first, second, end };
+        Some(two.progression(pattern, agreeing))
+    }
 }
 
 // All starts, counted in the strip, of parts of the field that have the pattern's length and codes.
@@ -99,11 +94,9 @@ pub fn places<K: Keeper>(
     ensures value { outcome result ≡ places_outcome (K.codes keeper.now) pattern field }
     ensures law { PlacesLaw (K.codes keeper.now) pattern field result }
 {
-    if !lies_in(keeper, pattern) || !lies_in(keeper, field) {
-        return Err(Refusal::FragmentLeavesStrip);
-    }
-    if is_too_long(field, pattern) {
+    let parts = Parts::of(keeper, pattern, field)?;
+    if field.length / 2 >= pattern.length {
         return Err(Refusal::FieldTooLong);
     }
-    Ok(places_in(keeper, pattern, field))
+    Ok(parts.places())
 }

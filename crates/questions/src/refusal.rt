@@ -32,20 +32,25 @@ impl Refusal {
             Refusal::TooFewRecords => 11,
         }
     }
+
+    // The sentence that the refusal prints as.
+    fn sentence(self) -> &'static str
+        ensures { result.now ≡ refusal_sentence self }
+    {
+        match self {
+            Refusal::FragmentLeavesStrip => "a fragment leaves the strip",
+            Refusal::FieldTooLong => "the field is at least twice as long as the pattern",
+            Refusal::ZeroOverlap => "an overlap of 0 was asked for",
+            Refusal::EmptyFragment => "the fragment is empty",
+            Refusal::TooFewRecords => "fewer than 17 records were supplied",
+        }
+    }
 }
 
 impl fmt::Display for Refusal {
     ghost output = { λ refusal. Some (refusal_sentence refusal) };
 
     fn fmt<W: fmt::Write>(&self, f: &mut fmt::Formatter<W>) -> fmt::Result {
-        match *self {
-            Refusal::FragmentLeavesStrip => f.write_str("a fragment leaves the strip"),
-            Refusal::FieldTooLong => {
-                f.write_str("the field is at least twice as long as the pattern")
-            }
-            Refusal::ZeroOverlap => f.write_str("an overlap of 0 was asked for"),
-            Refusal::EmptyFragment => f.write_str("the fragment is empty"),
-            Refusal::TooFewRecords => f.write_str("fewer than 17 records were supplied"),
-        }
+        f.write_str(self.sentence())
     }
 }

@@ -1,6 +1,6 @@
-use Rattle.std.proofs.Common.{◌≡◌, true, None, sym, arith}
+use Rattle.std.proofs.Common.{◌≡◌, None, sym, arith}
 use Rattle.std.proofs.lemmas.Bool.Decides.{nat_tests}
-use Rattle.periodicity.specs.Fragments.{cut, inside}
+use Rattle.periodicity.specs.Fragments.{cut}
 use Rattle.periodicity.specs.Overlaps.{is_overlap, overlaps_of}
 use Rattle.periodicity.specs.Progressions.{told}
 use Rattle.periodicity.proofs.Ranges.{told_tells, names_tells}
@@ -10,16 +10,15 @@ use Rattle.questions.proofs.overlap.overlaps.Goals as goal
 
 pub returns : goal.returns
 returns g c =
-    let xs = g.K.Keeper.codes c.args.keeper.now in
-    let first = c.args.first in
-    let second = c.args.second in
+    let parts = c.in_ok-parts.parts in
+    let same = c.in_ok-parts.ensures.parts in
+    let xs = g.K.Keeper.codes parts.keeper.now in
     let least = c.args.least in
-    let in_first : inside xs first ≡ true = sym c.if-not-lies_in.ensures in
-    let in_second : inside xs second ≡ true = sym c.if-not-lies_in-2.ensures in
-    let unchecked : overlaps_check xs first second least ≡ None = grind (arith, nat_tests) in
-    let test = is_overlap (cut xs first) (cut xs second) in
     let answer = c.overlaps_from.result in
+    let unchecked : overlaps_check xs parts.first parts.second least ≡ None = grind (arith, nat_tests, parts.first_lies, parts.second_lies) in
+    let test = is_overlap (cut xs parts.first) (cut xs parts.second) in
     record {
-      value = answered_unchecked (overlaps_check xs first second least) answer (told (overlaps_of (cut xs first) (cut xs second) least)) unchecked (sym (told_tells test least least answer c.overlaps_from.ensures));
-      law = (unchecked, names_tells test least least answer c.overlaps_from.ensures);
+      value = rw (← same.0, ← same.1, ← same.2)
+          (answered_unchecked (overlaps_check xs parts.first parts.second least) answer (told (overlaps_of (cut xs parts.first) (cut xs parts.second) least)) unchecked (sym (told_tells test least least answer c.overlaps_from.ensures)));
+      law = rw (← same.0, ← same.1, ← same.2) (unchecked, names_tells test least least answer c.overlaps_from.ensures);
     }

@@ -1,6 +1,4 @@
-use Rattle.std.proofs.Common.{◌≡◌, ◌+◌, ◌-◌, ◌*◌, true, false, leb, None, sym, ◌∙◌, arith}
-use Rattle.std.proofs.lemmas.Bool.Decides.{nat_tests}
-use Rattle.periodicity.specs.Fragments.{inside}
+use Rattle.std.proofs.Common.{◌+◌, ◌-◌, sym}
 use Rattle.periodicity.specs.Places.{is_place, places_of}
 use Rattle.periodicity.specs.Progressions.{told}
 use Rattle.periodicity.proofs.Ranges.{told_tells, names_tells}
@@ -10,16 +8,17 @@ use Rattle.questions.proofs.place.places.Goals as goal
 
 pub returns : goal.returns
 returns g c =
-    let xs = g.K.Keeper.codes c.args.keeper.now in
-    let pattern = c.args.pattern in
-    let field = c.args.field in
-    let in_pattern : inside xs pattern ≡ true = sym c.if-not-lies_in.ensures in
-    let in_field : inside xs field ≡ true = sym c.if-not-lies_in-2.ensures in
-    let near : leb (2 * pattern.length) field.length ≡ false = sym c.is_too_long.ensures ∙ c.if-is_too_long.false in
-    let unchecked : places_check xs pattern field ≡ None = grind (arith, nat_tests) in
-    let answer = c.places_in.result in
+    let parts = c.in_ok-parts.parts in
+    let same = c.in_ok-parts.ensures.parts in
+    let xs = g.K.Keeper.codes parts.keeper.now in
+    let pattern = parts.first in
+    let field = parts.second in
+    let answer = c.places.result in
+    let unchecked = c.places.ensures.unchecked in
+    let test = is_place xs pattern in
     let size = field.length + 1 - pattern.length in
     record {
-      value = answered_unchecked (places_check xs pattern field) answer (told (places_of xs pattern field)) unchecked (sym (told_tells (is_place xs pattern) field.start size answer c.places_in.ensures));
-      law = (unchecked, names_tells (is_place xs pattern) field.start size answer c.places_in.ensures);
+      value = rw (← same.0, ← same.1, ← same.2)
+          (answered_unchecked (places_check xs pattern field) answer (told (places_of xs pattern field)) unchecked (sym (told_tells test field.start size answer c.places.ensures.places)));
+      law = rw (← same.0, ← same.1, ← same.2) (unchecked, names_tells test field.start size answer c.places.ensures.places);
     }
