@@ -141,7 +141,11 @@ pub(crate) fn send<K: Spelled + Copy + Drop>(
 ) -> anyhow::Result<String> {
     let (capacity, rest) = number(text)?;
     let (places, rest) = number(rest)?;
-    let calls = rest.split('|').skip(1).map(str::trim).collect::<Vec<_>>(heap)?;
+    let calls = rest
+        .split('|')
+        .skip(1)
+        .map(str::trim)
+        .collect::<Vec<_>>(heap)?;
     let cells = cells_sent::<K>(heap, calls.as_slice())?;
     let mut requests = Vec::new(heap);
     for (call, cells) in calls.iter().zip(cells.iter()) {
@@ -161,18 +165,19 @@ pub(crate) fn send<K: Spelled + Copy + Drop>(
 }
 
 // Takes the cell of a code alone.
-fn take_one<K: CellKind + Drop>(
+fn take_one<K: CellKind + Copy + Drop>(
     heap: Global,
     shelf: &mut Shelf,
     code: u16,
     places: usize,
 ) -> Result<Answer, AllocError> {
+    let cells = vec![in heap; K::cell(u32::from(code)); 1]?;
     let mut work = work_area(heap, places)?;
-    Ok(shelf.take(&[K::cell(u32::from(code))], work.as_mut_slice()))
+    Ok(shelf.take(cells.as_slice(), work.as_mut_slice()))
 }
 
 // Takes cells one by one, those of codes that follow each other: work places, the first code, and how many.
-pub(crate) fn each<K: CellKind + Drop>(
+pub(crate) fn each<K: CellKind + Copy + Drop>(
     heap: Global,
     shelf: &mut Shelf,
     text: &str,
