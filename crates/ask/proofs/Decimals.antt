@@ -1,10 +1,13 @@
 -- A number is read digit by digit. Assumes nothing.
-use Rattle.std.proofs.Common.{◌≡◌, ℕ, ◌+◌, ◌-◌, ◌*◌, ◌<◌, ◌≤◌, true, false, cond, ◌&&◌, ltb, List, [], ◌∷◌, length, get_or, drop, Some, None, Option, refl, ap, ◌∙◌, arith}
+use Rattle.std.proofs.Common.{◌≡◌, ℕ, ◌+◌, ◌-◌, ◌*◌, ◌<◌, ◌≤◌, true, false, cond, ◌&&◌, ltb, List, [], ◌∷◌, length, get_or, drop, Some, None, Option, sym, refl, ap, ◌∙◌, arith}
 use Rattle.std.specs.Char.{is_ascii_digit}
 use Rattle.std.specs.Str.{all_ascii_digits}
 use Rattle.std.proofs.lemmas.List.{at_drop_more, at_drop_all}
 use Rattle.std.proofs.lemmas.Bool.{cond-true, cond-false, and_right, le-ltb, lt-ltb}
 use Rattle.std.proofs.lemmas.Bool.Decides.{nat_tests}
+use Rattle.std.specs.declared.result.Result.{Result}
+use Rattle.std.specs.declared.result.Result.TheVariants.{Ok, Err}
+use Rattle.std.specs.Result.{OkIff, result_ok}
 use Rattle.ask.specs.Numbers.{value_after, number_below}
 
 -- what comes of a number that has been read and the digits that follow
@@ -51,12 +54,16 @@ module _ (least most : ℕ) where
   narrow_none [] h e = refl
   narrow_none (b ∷ bs) h e = grind (arith, nat_tests)
 
-  pub narrow_some : (bs : List ℕ) (n : ℕ) → n < least → number_below most bs ≡ Some n → number_below least bs ≡ Some n
+  narrow_some : (bs : List ℕ) (n : ℕ) → n < least → number_below most bs ≡ Some n → number_below least bs ≡ Some n
   unfolding number_below
   narrow_some [] n h e = e
   narrow_some (b ∷ bs) n h e = grind (arith, nat_tests)
 
-  pub narrow_over : (bs : List ℕ) (n : ℕ) → number_below most bs ≡ Some n → (n < least → ⊥) → number_below least bs ≡ None
+  narrow_over : (bs : List ℕ) (n : ℕ) → number_below most bs ≡ Some n → (n < least → ⊥) → number_below least bs ≡ None
   unfolding number_below
   narrow_over [] n e h = refl
   narrow_over (b ∷ bs) n e h = grind (arith, nat_tests)
+
+  pub narrow_to : {E : Type 0} (bs : List ℕ) (n : ℕ) (r : Result ℕ E) → number_below most bs ≡ Some n → OkIff r (n < least) n → result_ok r ≡ number_below least bs
+  narrow_to bs n (Ok m) e fits = ap Some fits.1 ∙ sym (narrow_some bs n fits.0 e)
+  narrow_to bs n (Err x) e over = sym (narrow_over bs n e over)

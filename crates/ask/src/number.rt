@@ -26,8 +26,5 @@ pub(crate) fn number(word: &[u8]) -> Option<usize>
 pub(crate) fn code(word: &[u8]) -> Option<u32>
     ensures { result ≡ number_below (2 ^ 32) word.now }
 {
-    match u32::try_from(number(word)?) {
-        Ok(code) => Some(code),
-        Err(_) => None,
-    }
+    u32::try_from(number(word)?).ok()
 }
