@@ -38,7 +38,7 @@ unfoldable pub lines_of : List ℕ → List (List ℕ)
 lines_of bs = lines_after [] bs
 
 -- whether a word has the bytes of a name
-unfoldable pub is_named : List ℕ → List ℕ → Bool
+abbrev pub is_named : List ℕ → List ℕ → Bool
 is_named word name = bytes_eq word name
 
 -- the bytes that stand in a stretch

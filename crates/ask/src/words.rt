@@ -2,7 +2,7 @@
 
 ghost use Rattle.std.specs.Prelude.{◌≡◌, ◌≤◌, length};
 ghost use Rattle.std.specs.List.{prefix_len};
-ghost use Rattle.std.specs.Iterator.{YieldsFirstRef, item_count};
+ghost use Rattle.std.specs.Iterator.{YieldsFirstRef, at_most};
 ghost use Rattle.ask.specs.Words.{in_stretch, is_named, FirstWord, FirstLine};
 ghost use Rattle.ask.specs.Pieces.{words_left, lines_left};
 
@@ -35,7 +35,7 @@ impl Stretch {
 }
 
 // The first word of a line and what follows it.
-pub(crate) fn next_word(line: &[u8]) -> Option<(&[u8], &[u8])>
+fn next_word(line: &[u8]) -> Option<(&[u8], &[u8])>
     ensures { FirstWord line.now result }
 {
     let line = &line[Stretch::Blanks.length_in(line)..];
@@ -47,7 +47,7 @@ pub(crate) fn next_word(line: &[u8]) -> Option<(&[u8], &[u8])>
 }
 
 // The first line of a text and what follows its newline; the last line may have none.
-pub(crate) fn next_line(text: &[u8]) -> Option<(&[u8], &[u8])>
+fn next_line(text: &[u8]) -> Option<(&[u8], &[u8])>
     ensures { FirstLine text.now result }
 {
     if text.is_empty() {
@@ -79,7 +79,7 @@ impl<'a> Iterator for Words<'a> {
 
     ghost next_gives = { YieldsFirstRef words_left };
 
-    ghost remaining = { item_count words_left };
+    ghost remaining = { λ words. at_most (length words.rest.now) };
 
     fn next(&mut self) -> Option<&'a [u8]> {
         let (word, rest) = next_word(self.rest)?;
@@ -107,7 +107,7 @@ impl<'a> Iterator for Lines<'a> {
 
     ghost next_gives = { YieldsFirstRef lines_left };
 
-    ghost remaining = { item_count lines_left };
+    ghost remaining = { λ lines. at_most (length lines.rest.now) };
 
     fn next(&mut self) -> Option<&'a [u8]> {
         let (line, rest) = next_line(self.rest)?;
