@@ -35,6 +35,7 @@ impl Stretch {
 }
 
 // The first word of a line and what follows it.
+#[tactic(auto, using(crate::proofs::Pieces::first_word))]
 fn next_word(line: &[u8]) -> Option<(&[u8], &[u8])>
     ensures { FirstWord line.now result }
 {
@@ -47,6 +48,7 @@ fn next_word(line: &[u8]) -> Option<(&[u8], &[u8])>
 }
 
 // The first line of a text and what follows its newline; the last line may have none.
+#[tactic(auto, using(crate::proofs::Pieces::first_lines))]
 fn next_line(text: &[u8]) -> Option<(&[u8], &[u8])>
     ensures { FirstLine text.now result }
 {
