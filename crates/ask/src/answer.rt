@@ -120,6 +120,7 @@ pub fn write_found<W: fmt::Write>(
 }
 
 // The records in use, parted by slashes.
+#[tactic(auto, using(crate::proofs::Records::recording))]
 fn write_records<W: fmt::Write>(
     f: &mut fmt::Formatter<W>,
     records: [Progression; RECORDS],
