@@ -109,7 +109,8 @@ impl Words<'_> {
         self.ended(Question::Periods { fragment })
     }
 
-    // A question by its name and its numbers. A `match` on byte strings leaves a goal at each of their bytes.
+    // A question by its name and its numbers. A `match` on byte strings
+    // leaves a goal open at each of their bytes.
     fn question(mut self) -> Option<Question>
         ensures { result ≡ question_words (words_left self.entry) }
     {
@@ -133,7 +134,7 @@ impl Words<'_> {
         Some((layers, self.question()?))
     }
 
-    // All words as codes; absent when one is none.
+    // All words as codes; absent when one is none. A `collect` into an `Option` says nothing of its result.
     fn codes(self, heap: Global) -> Result<Option<Vec<u32>>, AllocError>
         ensures { IfOk result (λ codes. option_map vec_items codes ≡ codes_words (words_left self.entry)) }
     {
@@ -155,8 +156,12 @@ pub fn parse(heap: Global, line: &[u8]) -> Result<Line, AllocError>
     let mut words = Words::of(line);
     let parsed = match words.next() {
         None => Some(Line::Nothing),
-        Some(name) if spells(name, "strip") => words.codes(heap)?.map(|codes| Line::Strip { codes }),
-        Some(_) => Words::of(line).asked().map(|(layers, question)| Line::Question { layers, question }),
+        Some(name) if spells(name, "strip") => words
+            .codes(heap)?
+            .map(|codes| Line::Strip { codes }),
+        Some(_) => Words::of(line)
+            .asked()
+            .map(|(layers, question)| Line::Question { layers, question }),
     };
     Ok(parsed.unwrap_or(Line::NotUnderstood))
 }

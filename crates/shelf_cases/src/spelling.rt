@@ -39,11 +39,10 @@ impl Spelled for Day {
     }
 
     fn read(word: &str) -> anyhow::Result<Day> {
-        let mut fields = [0u8; 4];
-        for (field, digits) in fields.iter_mut().zip(word.split('.')) {
-            *field = digits.parse::<u8>()?;
-        }
-        let [day, weekday, mark, note] = fields;
+        let (day, rest) = number_before(word, '.')?;
+        let (weekday, rest) = number_before(rest, '.')?;
+        let (mark, rest) = number_before(rest, '.')?;
+        let (note, _) = number_before(rest, '.')?;
         Ok(Day {
             day,
             weekday,
@@ -62,13 +61,21 @@ pub(crate) fn word(text: &str) -> (&str, &str) {
     text.split_once(' ').unwrap_or((text, ""))
 }
 
+// The number before the next mark of this kind, and the text after it.
+fn number_before<T: FromStr>(text: &str, mark: char) -> anyhow::Result<(T, &str)>
+where
+    T::Err: Error + Drop,
+{
+    let (digits, rest) = text.split_once(mark).unwrap_or((text, ""));
+    Ok((digits.parse::<T>()?, rest))
+}
+
 // The number before the next space, and the text after it.
 pub(crate) fn number<T: FromStr>(text: &str) -> anyhow::Result<(T, &str)>
 where
     T::Err: Error + Drop,
 {
-    let (digits, rest) = word(text);
-    Ok((digits.parse::<T>()?, rest))
+    number_before(text, ' ')
 }
 
 // Cells with spaces between; `5x3` is three cells.
