@@ -37,9 +37,10 @@ impl Words<'_> {
     fn fragment(&mut self) -> Option<Fragment>
         ensures { front_of result self.new ≡ fragment_front (words_left self.old) }
     {
-        let start = self.number()?;
-        let length = self.number()?;
-        Some(Fragment { start, length })
+        Some(Fragment {
+            start: self.number()?,
+            length: self.number()?,
+        })
     }
 
     // Whether the next word is this name, which is then taken.
@@ -59,7 +60,7 @@ impl Words<'_> {
         ensures { front_of result self.new ≡ window_front (words_left self.old) }
     {
         if self.takes("window") {
-            Some(Some(self.fragment()?))
+            self.fragment().map(Some)
         } else {
             Some(None)
         }
@@ -69,9 +70,10 @@ impl Words<'_> {
     fn layers(&mut self) -> Option<Layers>
         ensures { front_of result self.new ≡ layers_front (words_left self.old) }
     {
-        let window = self.window()?;
-        let reversed = self.takes("reversed");
-        Some(Layers { window, reversed })
+        Some(Layers {
+            window: self.window()?,
+            reversed: self.takes("reversed"),
+        })
     }
 
     // What was asked, unless words are left over.
@@ -84,22 +86,22 @@ impl Words<'_> {
     fn places(mut self) -> Option<Question>
         ensures { result ≡ places_words (words_left self.entry) }
     {
-        let pattern = self.fragment()?;
-        let field = self.fragment()?;
-        self.ended(Question::Places { pattern, field })
+        let question = Question::Places {
+            pattern: self.fragment()?,
+            field: self.fragment()?,
+        };
+        self.ended(question)
     }
 
     fn overlaps(mut self) -> Option<Question>
         ensures { result ≡ overlaps_words (words_left self.entry) }
     {
-        let first = self.fragment()?;
-        let second = self.fragment()?;
-        let least = self.number()?;
-        self.ended(Question::Overlaps {
-            first,
-            second,
-            least,
-        })
+        let question = Question::Overlaps {
+            first: self.fragment()?,
+            second: self.fragment()?,
+            least: self.number()?,
+        };
+        self.ended(question)
     }
 
     fn periods(mut self) -> Option<Question>
