@@ -1,6 +1,5 @@
 -- What a text of lines says, and what is answered to it.
 pub mod Words
-pub mod Pieces
 pub mod Numbers
 pub mod Lines
 pub mod Answers

@@ -9,8 +9,7 @@ use Rattle.ask.specs.declared.question.Layers.{Layers}
 use Rattle.ask.specs.declared.question.Question.{Question}
 use Rattle.ask.specs.declared.question.Question.TheVariants.{Places, Overlaps, Periods}
 use Rattle.ask.specs.Numbers.{number_below}
-use Rattle.ask.specs.Words.{words_of, is_named}
-use Rattle.ask.specs.Pieces.{words_left}
+use Rattle.ask.specs.Words.{words_of, words_left, is_named}
 
 -- what stands at the front of some words, and the words after it; absent when nothing of the sort stands there
 abbrev pub Front : Type 0 → Type 0

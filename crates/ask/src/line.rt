@@ -2,7 +2,7 @@
 
 ghost use Rattle.std.specs.Prelude.{◌≡◌, IfOk, Some, vec_items};
 ghost use Rattle.std.specs.Option.{option_map};
-ghost use Rattle.ask.specs.Pieces.{words_left, named_front};
+ghost use Rattle.ask.specs.Words.{words_left, named_front};
 ghost use Rattle.ask.specs.Lines.{front_of, at_end, number_front, fragment_front, window_front, layers_front, places_words};
 ghost use Rattle.ask.specs.Lines.{overlaps_words, periods_words, question_words, question_line, codes_words, saying_of, said_by};
 

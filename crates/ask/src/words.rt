@@ -3,8 +3,7 @@
 ghost use Rattle.std.specs.Prelude.{◌≡◌, ◌≤◌, length};
 ghost use Rattle.std.specs.List.{prefix_len};
 ghost use Rattle.std.specs.Iterator.{YieldsFirstRef, at_most};
-ghost use Rattle.ask.specs.Words.{in_stretch, is_named, FirstWord, FirstLine};
-ghost use Rattle.ask.specs.Pieces.{words_left, lines_left};
+ghost use Rattle.ask.specs.Words.{words_left, lines_left, in_stretch, is_named, FirstWord, FirstLine};
 
 // Bytes of one sort that stand next to each other.
 #[derive(Clone, Copy)]

@@ -1,6 +1,6 @@
 -- What has been printed, and the lines that are left.
 use Rattle.std.proofs.Common.{◌≡◌, ◌+◌, ◌≤◌, ◌++◌, length, vec_items, string_bytes}
-use Rattle.ask.specs.Pieces.{lines_left}
+use Rattle.ask.specs.Words.{lines_left}
 use Rattle.ask.specs.Transcript.{transcript_from, transcript_of}
 use Rattle.ask.proofs.session.transcript.Given as goal
 

@@ -2,7 +2,7 @@
 use Rattle.std.proofs.Common.{◌≡◌, ◌++◌, vec_items}
 use Rattle.std.specs.Option.{option_map}
 use Rattle.ask.specs.Lines.{codes_words}
-use Rattle.ask.specs.Pieces.{words_left}
+use Rattle.ask.specs.Words.{words_left}
 use Rattle.ask.proofs.words.Words.codes.Given as goal
 
 abbrev pub invariant-loop-word : goal.invariant-loop-word
