@@ -140,3 +140,5 @@ last_line bs size line rest some e whole front back =
       pieces = lines_end [] bs (sym e ∙ whole) ∙ ended_some bs [] (omega arith) ∙ (λ i. sym all i ∷ lines_after [] (sym none i));
       shorter = rw none (omega arith);
     }
+
+pub ruleset first_lines = (no_line, first_line, last_line)

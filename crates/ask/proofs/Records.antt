@@ -46,3 +46,5 @@ module _ {W : Type 0} (took : W → List ℕ → W → Type 0) where
     pub sofar_all : length all ≤ i → IsPlainFormatter f → HasWritten took f (records_after (ascii " ") all) h
     sofar_all past plain =
         has_written_of_eq took f so.done _ h (sym (append-nil so.done) ∙ ap (λ l. so.done ++ l) (sym (at_drop_all (records_after before) all i past)) ∙ so.whole) (so.put plain)
+
+pub ruleset recording = (sofar_none, sofar_all)

@@ -22,7 +22,7 @@ abbrev pub periods_outcome : List ℕ → Fragment → Outcome (List Progression
 periods_outcome xs fragment = checked (periods_check xs fragment 17) (written_records (cut xs fragment))
 
 -- what a question about a list of codes comes to
-unfoldable pub reply_to : Question → List ℕ → Reply
+abbrev pub reply_to : Question → List ℕ → Reply
 reply_to (Places pattern field) xs = of_places (places_outcome xs pattern field)
 reply_to (Overlaps first second least) xs = of_overlaps (overlaps_outcome xs first second least)
 reply_to (Periods fragment) xs = of_periods (periods_outcome xs fragment)
@@ -42,7 +42,7 @@ abbrev pub turned : Bool → List ℕ → List ℕ
 turned true xs = reverse xs
 turned false xs = xs
 
-unfoldable pub seen_through : Layers → List ℕ → List ℕ
+abbrev pub seen_through : Layers → List ℕ → List ℕ
 seen_through layers xs = turned layers.reversed (windowed layers.window xs)
 
 -- a first number, a step and a count
@@ -68,7 +68,7 @@ records_text (answered records) = records_after (ascii " ") records
 records_text (refused number) = refused_text number
 
 -- what is written of a reply: the question's name and what it comes to
-unfoldable pub reply_text : Reply → List ℕ
+abbrev pub reply_text : Reply → List ℕ
 reply_text (of_places o) = ascii "places" ++ found_text o
 reply_text (of_overlaps o) = ascii "overlaps" ++ found_text o
 reply_text (of_periods o) = ascii "periods" ++ records_text o

@@ -1,24 +1,24 @@
 -- What a line says. Assumes nothing.
 use Rattle.std.specs.Prelude.{ℕ, ◌^◌, Bool, true, false, cond, List, [], ◌∷◌, Some, None, vec_items, codes as ascii, Option}
-use Rattle.std.specs.Borrow.{Bor}
 use Rattle.std.specs.Option.{option_map}
 use Rattle.periodicity.specs.declared.Fragment.{Fragment}
 use Rattle.ask.specs.declared.line.Line.{Line}
 use Rattle.ask.specs.declared.line.Line.TheVariants as line
+use Rattle.ask.specs.declared.words.Words.{Words}
 use Rattle.ask.specs.declared.question.Layers.{Layers}
 use Rattle.ask.specs.declared.question.Question.{Question}
 use Rattle.ask.specs.declared.question.Question.TheVariants.{Places, Overlaps, Periods}
 use Rattle.ask.specs.Numbers.{number_below}
-use Rattle.ask.specs.Words.{words_of, is_named}
+use Rattle.ask.specs.Words.{words_of, words_left, is_named}
 
 -- what stands at the front of some words, and the words after it; absent when nothing of the sort stands there
 abbrev pub Front : Type 0 → Type 0
 Front A = Option (A × List (List ℕ))
 
--- the same as the code gives it, with the words after it still as bytes
-abbrev pub front_of : {A : Type 0} → Option (A × Bor (List ℕ)) → Front A
-front_of None = None
-front_of (Some p) = Some (p.0, words_of p.1.now)
+-- the same as the code gives it, which keeps the words after it apart
+abbrev pub front_of : {A : Type 0} → Option A → Words → Front A
+front_of None left = None
+front_of (Some a) left = Some (a, words_left left)
 
 -- what comes of what stands at the front, and of the words after it
 abbrev pub then_read : {A B : Type 0} → Front A → (A → List (List ℕ) → Option B) → Option B
@@ -36,7 +36,7 @@ number_front [] = None
 number_front (w ∷ ws) = option_map (λ n. (n, ws)) (number_below (2 ^ 64) w)
 
 -- a fragment: its start and its length
-unfoldable pub fragment_front : List (List ℕ) → Front Fragment
+abbrev pub fragment_front : List (List ℕ) → Front Fragment
 fragment_front ws =
     then_read (number_front ws) (λ start rest. then_read (number_front rest) (λ size after. Some (record { start = start; length = size }, after)))
 
@@ -52,7 +52,7 @@ reversed_front [] = Some (false, [])
 reversed_front (w ∷ ws) = cond (is_named w (ascii "reversed")) (Some (true, ws)) (Some (false, w ∷ ws))
 
 -- the layers: first a window, then a reversal
-unfoldable pub layers_front : List (List ℕ) → Front Layers
+abbrev pub layers_front : List (List ℕ) → Front Layers
 layers_front ws =
     then_read (window_front ws) (λ part rest. then_read (reversed_front rest) (λ turned after. Some (record { window = part; reversed = turned }, after)))
 
@@ -67,7 +67,7 @@ overlaps_words ws =
 abbrev pub periods_words : List (List ℕ) → Option Question
 periods_words ws = then_read (fragment_front ws) (λ fragment rest. at_end rest (Periods fragment))
 
-unfoldable pub question_words : List (List ℕ) → Option Question
+abbrev pub question_words : List (List ℕ) → Option Question
 question_words [] = None
 question_words (w ∷ ws) =
     cond (is_named w (ascii "places")) (places_words ws)
@@ -107,7 +107,7 @@ words_say [] = says_nothing
 words_say (w ∷ ws) = cond (is_named w (ascii "strip")) (strip_saying (codes_words ws)) (question_saying (question_line (w ∷ ws)))
 
 -- what the bytes of a line say
-unfoldable pub saying_of : List ℕ → Saying
+abbrev pub saying_of : List ℕ → Saying
 saying_of bs = words_say (words_of bs)
 
 -- what a parsed line says

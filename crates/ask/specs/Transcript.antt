@@ -27,5 +27,5 @@ transcript_from before strip (l ∷ ls) =
     printed_for (before + 1) strip (saying_of l) ++ transcript_from (before + 1) (strip_after strip (saying_of l)) ls
 
 -- what is printed for a text: the strip is empty at first
-unfoldable pub transcript_of : List ℕ → List ℕ
+abbrev pub transcript_of : List ℕ → List ℕ
 transcript_of bytes = transcript_from 0 [] (lines_of bytes)

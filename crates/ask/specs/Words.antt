@@ -1,7 +1,9 @@
 -- The lines of a text and the words of a line. Assumes nothing.
-use Rattle.std.specs.Prelude.{◌≡◌, ℕ, ◌<◌, Bool, cond, not, ◌||◌, List, [], ◌∷◌, ◌++◌, length, Some, None, Option, ◌==◌}
+use Rattle.std.specs.Prelude.{◌≡◌, ℕ, ◌<◌, Bool, true, false, cond, not, ◌||◌, List, [], ◌∷◌, ◌++◌, length, Some, None, Option, ◌==◌}
 use Rattle.std.specs.Borrow.{Bor}
 use Rattle.std.specs.Str.{bytes_eq}
+use Rattle.ask.specs.declared.words.Words.{Words}
+use Rattle.ask.specs.declared.words.Lines.{Lines}
 use Rattle.ask.specs.declared.words.Stretch.{Stretch}
 use Rattle.ask.specs.declared.words.Stretch.TheVariants.{Blanks, Word, Line}
 
@@ -38,8 +40,20 @@ unfoldable pub lines_of : List ℕ → List (List ℕ)
 lines_of bs = lines_after [] bs
 
 -- whether a word has the bytes of a name
-unfoldable pub is_named : List ℕ → List ℕ → Bool
+abbrev pub is_named : List ℕ → List ℕ → Bool
 is_named word name = bytes_eq word name
+
+-- whether the first word has the bytes of a name, and the words after it; all words where it has not
+abbrev pub named_front : List ℕ → List (List ℕ) → Bool × List (List ℕ)
+named_front name [] = (false, [])
+named_front name (w ∷ ws) = cond (is_named w name) (true, ws) (false, w ∷ ws)
+
+-- the words of a line, and the lines of a text, that have not been taken
+abbrev pub words_left : Words → List (List ℕ)
+words_left words = words_of words.rest.now
+
+abbrev pub lines_left : Lines → List (List ℕ)
+lines_left lines = lines_of lines.rest.now
 
 -- the bytes that stand in a stretch
 abbrev pub in_stretch : Stretch → ℕ → Bool

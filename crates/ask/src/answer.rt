@@ -1,10 +1,10 @@
 // Questions asked of a keeper, and their answers as text.
 
-ghost use Rattle.std.specs.Prelude.{◌≡◌, ◌++◌, Some, codes as ascii};
+ghost use Rattle.std.specs.Prelude.{◌≡◌, ℕ, List, ◌++◌, Some, codes as ascii};
 ghost use Rattle.std.specs.Fmt.{WritesOnOk};
 ghost use Rattle.questions.specs.Outcomes.{outcome};
-ghost use Rattle.ask.specs.Answers.{periods_outcome, reply_to, reply_of, seen_through, turned};
-ghost use Rattle.ask.specs.Answers.{records_after, records_text, found_text, reply_text};
+ghost use Rattle.ask.specs.Answers.{Reply, periods_outcome, reply_to, reply_of, seen_through, turned};
+ghost use Rattle.ask.specs.Answers.{records_after, records_text, triple_text, found_text, reply_text};
 
 use crate::question::{Layers, Question};
 use keepers::{Keeper, Reversed, Window};
@@ -20,61 +20,100 @@ pub enum Answer {
     Periods(Result<[Progression; RECORDS], Refusal>),
 }
 
-const UNUSED: Progression = Progression {
-    first: 0,
-    step: 0,
-    count: 0,
-};
+// Something that can be asked of a keeper, whatever keeper it is.
+pub trait Asking {
+    // What it comes to, by the codes that the keeper stands for.
+    ghost reply: { Self → List ℕ → Reply };
+
+    fn ask<K: Keeper>(&self, keeper: &K) -> Answer
+        ensures { reply_of result ≡ reply self.now (K.codes keeper.now) };
+}
 
 // The records of a fragment's periods.
 fn periods_of<K: Keeper>(keeper: &K, fragment: Fragment) -> Result<[Progression; RECORDS], Refusal>
     ensures { outcome result ≡ periods_outcome (K.codes keeper.now) fragment }
 {
-    let mut records = [UNUSED; RECORDS];
+    let mut records = [Progression::default(); RECORDS];
     periods(keeper, fragment, &mut records)?;
     Ok(records)
+}
+
+impl Asking for Question {
+    ghost reply = { reply_to };
+
+    fn ask<K: Keeper>(&self, keeper: &K) -> Answer {
+        match *self {
+            Question::Places { pattern, field } => Answer::Places(places(keeper, pattern, field)),
+            Question::Overlaps {
+                first,
+                second,
+                least,
+            } => Answer::Overlaps(overlaps(keeper, first, second, least)),
+            Question::Periods { fragment } => Answer::Periods(periods_of(keeper, fragment)),
+        }
+    }
+}
+
+// Something asked of what is seen through layers. It can be seen through further layers, which stand below.
+#[derive(Clone, Copy)]
+pub struct Through<A> {
+    pub layers: Layers,
+    pub asking: A,
+}
+
+impl<A: Asking> Through<A> {
+    // Asks of what is seen through the window.
+    fn ask_turned<K: Keeper>(&self, keeper: &K) -> Answer
+        ensures { reply_of result ≡ A.reply self.now.asking (turned self.now.layers.reversed (K.codes keeper.now)) }
+    {
+        if self.layers.reversed {
+            self.asking.ask(&Reversed { below: keeper })
+        } else {
+            self.asking.ask(keeper)
+        }
+    }
+}
+
+impl<A: Asking> Asking for Through<A> {
+    ghost reply = { λ through xs. A.reply through.asking (seen_through through.layers xs) };
+
+    fn ask<K: Keeper>(&self, keeper: &K) -> Answer {
+        match self.layers.window {
+            Some(part) => self.ask_turned(&Window {
+                below: keeper,
+                start: part.start,
+                length: part.length,
+            }),
+            None => self.ask_turned(keeper),
+        }
+    }
 }
 
 // Asks about the codes that a keeper stands for.
 pub fn ask<K: Keeper>(keeper: &K, question: Question) -> Answer
     ensures { reply_of result ≡ reply_to question (K.codes keeper.now) }
 {
-    match question {
-        Question::Places { pattern, field } => Answer::Places(places(keeper, pattern, field)),
-        Question::Overlaps {
-            first,
-            second,
-            least,
-        } => Answer::Overlaps(overlaps(keeper, first, second, least)),
-        Question::Periods { fragment } => Answer::Periods(periods_of(keeper, fragment)),
-    }
-}
-
-fn ask_turned<K: Keeper>(keeper: &K, reversed: bool, question: Question) -> Answer
-    ensures { reply_of result ≡ reply_to question (turned reversed (K.codes keeper.now)) }
-{
-    if reversed {
-        ask(&Reversed { below: keeper }, question)
-    } else {
-        ask(keeper, question)
-    }
+    question.ask(keeper)
 }
 
 // Asks about the codes that are seen through the layers.
 pub fn ask_through<K: Keeper>(keeper: &K, layers: Layers, question: Question) -> Answer
     ensures { reply_of result ≡ reply_to question (seen_through layers (K.codes keeper.now)) }
 {
-    match layers.window {
-        Some(part) => ask_turned(
-            &Window {
-                below: keeper,
-                start: part.start,
-                length: part.length,
-            },
-            layers.reversed,
-            question,
-        ),
-        None => ask_turned(keeper, layers.reversed, question),
+    let asking = question;
+    Through { layers, asking }.ask(keeper)
+}
+
+// A progression as its first number, its step and its count.
+#[derive(Clone, Copy)]
+struct Triple(Progression);
+
+impl fmt::Display for Triple {
+    ghost output = { λ triple. Some (triple_text triple.0) };
+
+    fn fmt<W: fmt::Write>(&self, f: &mut fmt::Formatter<W>) -> fmt::Result {
+        let Triple(p) = self;
+        write!(f, "{} {} {}", p.first, p.step, p.count)
     }
 }
 
@@ -87,13 +126,14 @@ pub fn write_found<W: fmt::Write>(
     ensures { WritesOnOk W.Write.write_str_gives f.old result (name.now ++ found_text (outcome found)) f.new }
 {
     match found {
-        Ok(Some(p)) => write!(f, "{name} {} {} {}", p.first, p.step, p.count),
+        Ok(Some(p)) => write!(f, "{name} {}", Triple(p)),
         Ok(None) => write!(f, "{name} none"),
         Err(refusal) => write!(f, "{name} refused {}", refusal.number()),
     }
 }
 
 // The records in use, parted by slashes.
+#[tactic(auto, using(crate::proofs::Records::recording))]
 fn write_records<W: fmt::Write>(
     f: &mut fmt::Formatter<W>,
     records: [Progression; RECORDS],
@@ -103,11 +143,7 @@ fn write_records<W: fmt::Write>(
     let mut before = " ";
     for record in records.iter() {
         if record.count > 0 {
-            write!(
-                f,
-                "{before}{} {} {}",
-                record.first, record.step, record.count
-            )?;
+            write!(f, "{before}{}", Triple(*record))?;
             before = " / ";
         }
     }

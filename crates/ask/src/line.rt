@@ -2,13 +2,13 @@
 
 ghost use Rattle.std.specs.Prelude.{◌≡◌, IfOk, Some, vec_items};
 ghost use Rattle.std.specs.Option.{option_map};
-ghost use Rattle.ask.specs.Words.{words_of};
-ghost use Rattle.ask.specs.Lines.{front_of, at_end, number_front, fragment_front, window_front, reversed_front, layers_front};
-ghost use Rattle.ask.specs.Lines.{places_words, overlaps_words, periods_words, question_words, codes_words, saying_of, said_by};
+ghost use Rattle.ask.specs.Words.{words_left, named_front};
+ghost use Rattle.ask.specs.Lines.{front_of, at_end, number_front, fragment_front, window_front, layers_front, places_words};
+ghost use Rattle.ask.specs.Lines.{overlaps_words, periods_words, question_words, question_line, codes_words, saying_of, said_by};
 
 use crate::number::{code, number};
 use crate::question::{Layers, Question};
-use crate::words::{next_word, spells};
+use crate::words::{Words, spells};
 use periodicity::Fragment;
 use std::alloc::{AllocError, Global};
 
@@ -24,151 +24,146 @@ pub enum Line {
     NotUnderstood,
 }
 
-// A number, and what follows it.
-fn next_number(text: &[u8]) -> Option<(usize, &[u8])>
-    ensures { front_of result ≡ number_front (words_of text.now) }
-{
-    let (word, rest) = next_word(text)?;
-    Some((number(word)?, rest))
-}
-
-// A fragment as its start and its length, and what follows it.
-fn next_fragment(text: &[u8]) -> Option<(Fragment, &[u8])>
-    ensures { front_of result ≡ fragment_front (words_of text.now) }
-{
-    let (start, rest) = next_number(text)?;
-    let (length, rest) = next_number(rest)?;
-    Some((Fragment { start, length }, rest))
-}
-
-// The window, if one is named first, and what follows it; absent when `window` stands without a fragment.
-fn next_window(text: &[u8]) -> Option<(Option<Fragment>, &[u8])>
-    ensures { front_of result ≡ window_front (words_of text.now) }
-{
-    let Some((word, rest)) = next_word(text) else {
-        return Some((None, text));
-    };
-    if !spells(word, "window") {
-        return Some((None, text));
+// What the words of a line say, from the next one on; each takes the words that it reads.
+impl Words<'_> {
+    // A number.
+    fn number(&mut self) -> Option<usize>
+        ensures { front_of result self.new ≡ number_front (words_left self.old) }
+    {
+        number(self.next()?)
     }
-    let (window, rest) = next_fragment(rest)?;
-    Some((Some(window), rest))
-}
 
-// Whether `reversed` stands first, and what follows it.
-fn next_reversed(text: &[u8]) -> (bool, &[u8])
-    ensures { Some (result.0, words_of result.1.now) ≡ reversed_front (words_of text.now) }
-{
-    let Some((word, rest)) = next_word(text) else {
-        return (false, text);
-    };
-    if spells(word, "reversed") {
-        (true, rest)
-    } else {
-        (false, text)
+    // A fragment: its start and its length.
+    fn fragment(&mut self) -> Option<Fragment>
+        ensures { front_of result self.new ≡ fragment_front (words_left self.old) }
+    {
+        Some(Fragment {
+            start: self.number()?,
+            length: self.number()?,
+        })
     }
-}
 
-// The layers that stand first, if any, and what follows them.
-fn next_layers(text: &[u8]) -> Option<(Layers, &[u8])>
-    ensures { front_of result ≡ layers_front (words_of text.now) }
-{
-    let (window, rest) = next_window(text)?;
-    let (reversed, rest) = next_reversed(rest);
-    Some((Layers { window, reversed }, rest))
-}
-
-// What was asked, unless words are left over.
-fn ended(text: &[u8], question: Question) -> Option<Question>
-    ensures { result ≡ at_end (words_of text.now) question }
-{
-    match next_word(text) {
-        None => Some(question),
-        Some(_) => None,
+    // Whether the next word is this name, which is then taken.
+    fn takes(&mut self, name: &str) -> bool
+        ensures { (result, words_left self.new) ≡ named_front name.now (words_left self.old) }
+    {
+        let mut after = *self;
+        let named = after.next().is_some_and(|word| spells(word, name));
+        if named {
+            *self = after;
+        }
+        named
     }
-}
 
-fn places_line(text: &[u8]) -> Option<Question>
-    ensures { result ≡ places_words (words_of text.now) }
-{
-    let (pattern, rest) = next_fragment(text)?;
-    let (field, rest) = next_fragment(rest)?;
-    ended(rest, Question::Places { pattern, field })
-}
-
-fn overlaps_line(text: &[u8]) -> Option<Question>
-    ensures { result ≡ overlaps_words (words_of text.now) }
-{
-    let (first, rest) = next_fragment(text)?;
-    let (second, rest) = next_fragment(rest)?;
-    let (least, rest) = next_number(rest)?;
-    ended(
-        rest,
-        Question::Overlaps {
-            first,
-            second,
-            least,
-        },
-    )
-}
-
-fn periods_line(text: &[u8]) -> Option<Question>
-    ensures { result ≡ periods_words (words_of text.now) }
-{
-    let (fragment, rest) = next_fragment(text)?;
-    ended(rest, Question::Periods { fragment })
-}
-
-// A question by its name and its numbers.
-fn question_line(text: &[u8]) -> Option<Question>
-    ensures { result ≡ question_words (words_of text.now) }
-{
-    let (word, rest) = next_word(text)?;
-    if spells(word, "places") {
-        places_line(rest)
-    } else if spells(word, "overlaps") {
-        overlaps_line(rest)
-    } else if spells(word, "periods") {
-        periods_line(rest)
-    } else {
-        None
+    // The window, if one is named; absent when `window` stands without a fragment.
+    fn window(&mut self) -> Option<Option<Fragment>>
+        ensures { front_of result self.new ≡ window_front (words_left self.old) }
+    {
+        if self.takes("window") {
+            self.fragment().map(Some)
+        } else {
+            Some(None)
+        }
     }
-}
 
-// All words as codes; absent when one is none.
-fn codes_line(heap: Global, text: &[u8]) -> Result<Option<Vec<u32>>, AllocError>
-    ensures { IfOk result (λ codes. option_map vec_items codes ≡ codes_words (words_of text.now)) }
-{
-    let mut codes = Vec::new(heap);
-    let mut rest = text;
-    while let Some((word, after)) = next_word(rest) {
-        let Some(code) = code(word) else {
-            return Ok(None);
+    // The layers, if any.
+    fn layers(&mut self) -> Option<Layers>
+        ensures { front_of result self.new ≡ layers_front (words_left self.old) }
+    {
+        Some(Layers {
+            window: self.window()?,
+            reversed: self.takes("reversed"),
+        })
+    }
+
+    // What was asked, unless words are left over.
+    fn ended(mut self, question: Question) -> Option<Question>
+        ensures { result ≡ at_end (words_left self.entry) question }
+    {
+        self.next().is_none().then_some(question)
+    }
+
+    fn places(mut self) -> Option<Question>
+        ensures { result ≡ places_words (words_left self.entry) }
+    {
+        let question = Question::Places {
+            pattern: self.fragment()?,
+            field: self.fragment()?,
         };
-        codes.push(code)?;
-        rest = after;
+        self.ended(question)
     }
-    Ok(Some(codes))
+
+    fn overlaps(mut self) -> Option<Question>
+        ensures { result ≡ overlaps_words (words_left self.entry) }
+    {
+        let question = Question::Overlaps {
+            first: self.fragment()?,
+            second: self.fragment()?,
+            least: self.number()?,
+        };
+        self.ended(question)
+    }
+
+    fn periods(mut self) -> Option<Question>
+        ensures { result ≡ periods_words (words_left self.entry) }
+    {
+        let fragment = self.fragment()?;
+        self.ended(Question::Periods { fragment })
+    }
+
+    // A question by its name and its numbers. A `match` on byte strings
+    // leaves a goal open at each of their bytes.
+    fn question(mut self) -> Option<Question>
+        ensures { result ≡ question_words (words_left self.entry) }
+    {
+        let name = self.next()?;
+        if spells(name, "places") {
+            self.places()
+        } else if spells(name, "overlaps") {
+            self.overlaps()
+        } else if spells(name, "periods") {
+            self.periods()
+        } else {
+            None
+        }
+    }
+
+    // The layers and the question behind them.
+    fn asked(mut self) -> Option<(Layers, Question)>
+        ensures { result ≡ question_line (words_left self.entry) }
+    {
+        let layers = self.layers()?;
+        Some((layers, self.question()?))
+    }
+
+    // All words as codes; absent when one is none. A `collect` into an `Option` says nothing of its result.
+    fn codes(self, heap: Global) -> Result<Option<Vec<u32>>, AllocError>
+        ensures { IfOk result (λ codes. option_map vec_items codes ≡ codes_words (words_left self.entry)) }
+    {
+        let mut codes = Vec::new(heap);
+        for word in self {
+            let Some(code) = code(word) else {
+                return Ok(None);
+            };
+            codes.push(code)?;
+        }
+        Ok(Some(codes))
+    }
 }
 
 // What a line says, without its newline.
 pub fn parse(heap: Global, line: &[u8]) -> Result<Line, AllocError>
     ensures { IfOk result (λ parsed. said_by parsed ≡ saying_of line.now) }
 {
-    let Some((word, rest)) = next_word(line) else {
-        return Ok(Line::Nothing);
+    let mut words = Words::of(line);
+    let parsed = match words.next() {
+        None => Some(Line::Nothing),
+        Some(name) if spells(name, "strip") => words
+            .codes(heap)?
+            .map(|codes| Line::Strip { codes }),
+        Some(_) => Words::of(line)
+            .asked()
+            .map(|(layers, question)| Line::Question { layers, question }),
     };
-    if spells(word, "strip") {
-        return match codes_line(heap, rest)? {
-            Some(codes) => Ok(Line::Strip { codes }),
-            None => Ok(Line::NotUnderstood),
-        };
-    }
-    let Some((layers, rest)) = next_layers(line) else {
-        return Ok(Line::NotUnderstood);
-    };
-    match question_line(rest) {
-        Some(question) => Ok(Line::Question { layers, question }),
-        None => Ok(Line::NotUnderstood),
-    }
+    Ok(parsed.unwrap_or(Line::NotUnderstood))
 }

@@ -4,6 +4,7 @@ ghost use Rattle.std.specs.Prelude.{◌≡◌, ◌^◌};
 ghost use Rattle.ask.specs.Numbers.{number_below};
 
 // The number that a word of digits writes; absent when the word is empty, has another byte or does not fit.
+#[tactic(auto, using(crate::proofs::Decimals::reading))]
 pub(crate) fn number(word: &[u8]) -> Option<usize>
     ensures { result ≡ number_below (2 ^ 64) word.now }
 {
@@ -23,11 +24,9 @@ pub(crate) fn number(word: &[u8]) -> Option<usize>
 }
 
 // The same of a code.
+#[tactic(auto, using(crate::proofs::Decimals::narrowing))]
 pub(crate) fn code(word: &[u8]) -> Option<u32>
     ensures { result ≡ number_below (2 ^ 32) word.now }
 {
-    match u32::try_from(number(word)?) {
-        Ok(code) => Some(code),
-        Err(_) => None,
-    }
+    u32::try_from(number(word)?).ok()
 }

@@ -6,7 +6,7 @@ ghost use Rattle.ask.specs.Transcript.{printed_for, transcript_of};
 
 use crate::answer::ask_through;
 use crate::line::{Line, parse};
-use crate::words::next_line;
+use crate::words::Lines;
 use keepers::LooseStrip;
 use std::alloc::{AllocError, Global};
 
@@ -32,13 +32,9 @@ pub fn transcript(heap: Global, text: &[u8]) -> Result<String, AllocError>
 {
     let mut all = String::new(heap);
     let mut strip = Vec::new(heap);
-    let mut number = 0;
-    let mut rest = text;
-    while let Some((bytes, after)) = next_line(rest) {
-        rest = after;
-        number += 1;
+    for (i, bytes) in Lines::of(text).enumerate() {
         let line = parse(heap, bytes)?;
-        let text = printed(heap, number, strip.as_slice(), &line)?;
+        let text = printed(heap, i + 1, strip.as_slice(), &line)?;
         all.push_str(text.as_str())?;
         if let Line::Strip { codes } = line {
             strip = codes;

@@ -1,3 +1,2 @@
--- What the program counts and prints, and the texts that it compares.
+-- The texts that the program compares.
 pub mod Cases
-pub mod Tallies

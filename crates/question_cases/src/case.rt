@@ -5,6 +5,7 @@ ghost use Rattle.ask.specs.Transcript.{transcript_of};
 ghost use Rattle.question_cases.specs.Cases.{asking_lines, expected_line};
 
 use crate::pile::ask_pile;
+use anyhow::anyhow;
 use ask::{Line, parse, transcript};
 use std::alloc::{AllocError, Global};
 
@@ -17,14 +18,6 @@ pub struct Case<'a> {
     pub layers: &'a str,
     pub arguments: &'a str,
     pub answer: &'a str,
-}
-
-// The text before the next bar, and the text after it; all and nothing where there is no bar.
-fn column(text: &str) -> (&str, &str) {
-    match text.split_once('|') {
-        Some((column, rest)) => (column.trim(), rest),
-        None => (text.trim(), ""),
-    }
 }
 
 // A line of the language of lines, as it is read: layers, and the question with its numbers.
@@ -72,28 +65,22 @@ fn through_lines(heap: Global, case: Case<'_>) -> Result<String, AllocError>
 }
 
 impl<'a> Case<'a> {
-    pub(crate) fn of(line: &'a str) -> Self {
-        let (question, rest) = column(line);
-        let (codes, rest) = column(rest);
-        let (third, rest) = column(rest);
-        let (fourth, fifth) = column(rest);
-        if fifth.is_empty() {
-            Case {
-                question,
-                codes,
-                layers: "",
-                arguments: third,
-                answer: fourth,
+    pub(crate) fn of(heap: Global, line: &'a str) -> anyhow::Result<Self> {
+        let columns = line.split('|').map(str::trim).collect::<Vec<_>>(heap)?;
+        let (question, codes, layers, arguments, answer) = match columns.as_slice() {
+            [question, codes, arguments, answer] => (question, codes, &"", arguments, answer),
+            [question, codes, layers, arguments, answer] => {
+                (question, codes, layers, arguments, answer)
             }
-        } else {
-            Case {
-                question,
-                codes,
-                layers: third,
-                arguments: fourth,
-                answer: fifth.trim(),
-            }
-        }
+            _ => return Err(anyhow!("a line has neither four columns nor five")),
+        };
+        Ok(Case {
+            question,
+            codes,
+            layers,
+            arguments,
+            answer,
+        })
     }
 
     // The line that is expected.

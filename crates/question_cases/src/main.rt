@@ -3,12 +3,12 @@
 
 mod case;
 mod pile;
-mod tally;
+mod tallies;
 
 use anyhow::anyhow;
 use case::Case;
 use std::fs;
-use tally::Tallies;
+use tallies::Tallies;
 
 // Runs the cases of a file, a line for each, and prints those whose answer is another; then how many
 // agree. Says whether all do.
@@ -16,9 +16,8 @@ fn run_file(rt: &HostRuntime, name: &str) -> anyhow::Result<bool> {
     let heap = rt.alloc();
     let text = fs::read_to_string(rt, name)?;
     let mut tallies = Tallies::new();
-    let mut all = true;
     for (i, line) in text.lines().enumerate() {
-        let case = Case::of(line);
+        let case = Case::of(heap, line)?;
         let expected = case.expected(heap)?;
         let got = case.run(heap)?;
         let agrees = expected == got;
@@ -30,7 +29,6 @@ fn run_file(rt: &HostRuntime, name: &str) -> anyhow::Result<bool> {
                 expected.trim(),
                 got.trim()
             )?;
-            all = false;
         }
     }
     println!(rt; "{name}: places {}", tallies.places)?;
@@ -39,7 +37,7 @@ fn run_file(rt: &HostRuntime, name: &str) -> anyhow::Result<bool> {
     if tallies.others > 0 {
         println!(rt; "{name}: {} lines name no question", tallies.others)?;
     }
-    Ok(all && tallies.others == 0)
+    Ok(tallies.all_agree())
 }
 
 fn run(rt: &HostRuntime) -> anyhow::Result<()> {

@@ -1,5 +1,5 @@
 // Takes, joins and cuts as a line spells them: alone, or sent as a list.
-use crate::spelling::{Spelled, number, read_cells, row_number, word};
+use crate::spelling::{Spelled, number, read_cells, word};
 use anyhow::anyhow;
 use cells::CellKind;
 use shelf::refusal::Refusal;
@@ -13,115 +13,72 @@ const LEFTOVER: u16 = 43_981;
 // What a place for an answer holds before a list is sent.
 const UNTOUCHED: u16 = 60_000;
 
-#[derive(Clone, Copy)]
-enum Act {
-    Take,
-    Join {
-        left: u16,
-        right: u16,
-    },
-    Cut {
-        number: u16,
-        start: usize,
-        size: usize,
-    },
+// The cells that a line as `take 3 5 9 5` spells; none where it spells another call.
+fn cells_taken<K: Spelled + Copy>(heap: Global, text: &str) -> anyhow::Result<Vec<K>> {
+    let (name, rest) = word(text);
+    if name != "take" {
+        return Ok(Vec::new(heap));
+    }
+    let (_, cells) = word(rest);
+    read_cells(heap, cells)
 }
 
-#[derive(Drop)]
-pub struct Call<K: Drop> {
-    act: Act,
-    places: usize,
-    cells: Vec<K>,
+fn read_join<'a, K>(text: &str) -> anyhow::Result<Request<'a, K>> {
+    let (left, rest) = number(text)?;
+    let (right, _) = number(rest)?;
+    Ok(Request::Join { left, right })
 }
 
-fn read_join(text: &str) -> anyhow::Result<Act> {
-    let (left, rest) = row_number(text)?;
-    let (right, _) = row_number(rest)?;
-    Ok(Act::Join { left, right })
-}
-
-fn read_cut(text: &str) -> anyhow::Result<Act> {
-    let (number_cut, rest) = row_number(text)?;
+fn read_cut<'a, K>(text: &str) -> anyhow::Result<Request<'a, K>> {
+    let (row, rest) = number(text)?;
     let (start, rest) = number(rest)?;
     let (size, _) = number(rest)?;
-    Ok(Act::Cut {
-        number: number_cut,
+    Ok(Request::Cut {
+        number: row,
         start,
         size,
     })
 }
 
-impl<K: Spelled + Copy + Drop> Call<K> {
-    // A line as `take 3 5 9 5`, `join 3 3 1` or `cut 3 7 1 3`: the first number is that of the work places.
-    pub(crate) fn read(heap: Global, text: &str) -> anyhow::Result<Call<K>> {
-        let (name, rest) = word(text);
-        let (places, rest) = number(rest)?;
-        let mut cells = Vec::new(heap);
-        let act = if name == "take" {
-            cells = read_cells(heap, rest)?;
-            Act::Take
-        } else if name == "join" {
-            read_join(rest)?
-        } else if name == "cut" {
-            read_cut(rest)?
-        } else {
-            return Err(anyhow!("a line names no call"));
-        };
-        Ok(Call { act, places, cells })
-    }
+// A line as `take 3 5 9 5`, `join 3 3 1` or `cut 3 7 1 3`, with the cells that it takes: the first number is
+// that of the work places.
+fn read_call<'a, K>(text: &str, cells: &'a [K]) -> anyhow::Result<Sent<'a, K>> {
+    let (name, rest) = word(text);
+    let (places, rest) = number(rest)?;
+    let request = match name {
+        "take" => Request::Take { cells },
+        "join" => read_join(rest)?,
+        "cut" => read_cut(rest)?,
+        _ => return Err(anyhow!("a line names no call")),
+    };
+    Ok(Sent { request, places })
+}
 
-    fn perform(&self, shelf: &mut Shelf, work: &mut [u16]) -> Answer {
-        match self.act {
-            Act::Take => shelf.take(self.cells.as_slice(), work),
-            Act::Join { left, right } => shelf.join(left, right, work),
-            Act::Cut {
-                number,
-                start,
-                size,
-            } => shelf.cut(number, start, size, work),
-        }
-    }
-
-    fn sent(&self) -> Sent<'_, K> {
-        let request = match self.act {
-            Act::Take => Request::Take {
-                cells: self.cells.as_slice(),
-            },
-            Act::Join { left, right } => Request::Join { left, right },
-            Act::Cut {
-                number,
-                start,
-                size,
-            } => Request::Cut {
-                number,
-                start,
-                size,
-            },
-        };
-        Sent {
-            request,
-            places: self.places,
-        }
+// Performs a request by a call of its own, and not as a list of one.
+fn perform<K: CellKind>(shelf: &mut Shelf, request: Request<'_, K>, work: &mut [u16]) -> Answer {
+    match request {
+        Request::Take { cells } => shelf.take(cells, work),
+        Request::Join { left, right } => shelf.join(left, right, work),
+        Request::Cut {
+            number,
+            start,
+            size,
+        } => shelf.cut(number, start, size, work),
     }
 }
 
 // A work area that is not zero, as an earlier use may leave it.
 fn work_area(heap: Global, places: usize) -> Result<Vec<u16>, AllocError> {
-    let mut work = Vec::new(heap);
-    for _ in 0..places {
-        work.push(LEFTOVER)?;
-    }
-    Ok(work)
+    vec![in heap; LEFTOVER; places]
 }
 
 // What is said of a work area after a call: nothing where it is all zeros, as it has to be.
 fn said_of_work(work: &[u16]) -> &'static str {
-    for place in work {
-        if *place != 0 {
-            return ", with a work area that is not cleared";
-        }
+    if work.iter().all(|place| *place == 0) {
+        ""
+    } else {
+        ", with a work area that is not cleared"
     }
-    ""
 }
 
 // A refusal, by its number, with the place where it tells one.
@@ -146,32 +103,25 @@ pub(crate) fn perform_call<K: Spelled + Copy + Drop>(
     shelf: &mut Shelf,
     text: &str,
 ) -> anyhow::Result<String> {
-    let call = Call::<K>::read(heap, text)?;
+    let cells = cells_taken::<K>(heap, text)?;
+    let call = read_call(text, cells.as_slice())?;
     let mut work = work_area(heap, call.places)?;
-    let answer = call.perform(shelf, work.as_mut_slice());
+    let answer = perform(shelf, call.request, work.as_mut_slice());
     let answer = spell_answer(heap, answer)?;
     let count = shelf.count();
     let said = said_of_work(work.as_slice());
     Ok(format!(in heap; "{answer}, {count} rows{said}")?)
 }
 
-fn read_calls<K: Spelled + Copy + Drop>(heap: Global, text: &str) -> anyhow::Result<Vec<Call<K>>> {
-    let mut calls = Vec::new(heap);
-    for part in text.split('|').skip(1) {
-        let call = Call::<K>::read(heap, part.trim())?;
-        if calls.push(call).is_err() {
-            return Err(anyhow!("too little memory"));
-        }
-    }
-    Ok(calls)
-}
-
-fn answers_before(heap: Global, capacity: usize) -> Result<Vec<Answer>, AllocError> {
-    let mut answers = Vec::new(heap);
-    for _ in 0..capacity {
-        answers.push(Ok(UNTOUCHED))?;
-    }
-    Ok(answers)
+// The cells that the calls of a list take, call by call.
+fn cells_sent<K: Spelled + Copy + Drop>(
+    heap: Global,
+    calls: &[&str],
+) -> anyhow::Result<Vec<Vec<K>>> {
+    calls
+        .iter()
+        .map(|call| -> anyhow::Result<Vec<K>> { cells_taken(heap, call) })
+        .try_collect(heap)
 }
 
 fn spell_answers(heap: Global, answers: &[Answer]) -> Result<String, AllocError> {
@@ -191,12 +141,17 @@ pub(crate) fn send<K: Spelled + Copy + Drop>(
 ) -> anyhow::Result<String> {
     let (capacity, rest) = number(text)?;
     let (places, rest) = number(rest)?;
-    let calls = read_calls::<K>(heap, rest)?;
+    let calls = rest
+        .split('|')
+        .skip(1)
+        .map(str::trim)
+        .collect::<Vec<_>>(heap)?;
+    let cells = cells_sent::<K>(heap, calls.as_slice())?;
     let mut requests = Vec::new(heap);
-    for call in calls.iter() {
-        requests.push(call.sent())?;
+    for (call, cells) in calls.iter().zip(cells.iter()) {
+        requests.push(read_call(call, cells.as_slice())?)?;
     }
-    let mut answers = answers_before(heap, capacity)?;
+    let mut answers = vec![in heap; Ok(UNTOUCHED); capacity]?;
     let mut work = work_area(heap, places)?;
     let performed = shelf.send(
         requests.as_slice(),
@@ -216,8 +171,7 @@ fn take_one<K: CellKind + Copy + Drop>(
     code: u16,
     places: usize,
 ) -> Result<Answer, AllocError> {
-    let mut cells = Vec::new(heap);
-    cells.push(K::cell(u32::from(code)))?;
+    let cells = vec![in heap; K::cell(u32::from(code)); 1]?;
     let mut work = work_area(heap, places)?;
     Ok(shelf.take(cells.as_slice(), work.as_mut_slice()))
 }
@@ -229,8 +183,8 @@ pub(crate) fn each<K: CellKind + Copy + Drop>(
     text: &str,
 ) -> anyhow::Result<String> {
     let (places, rest) = number(text)?;
-    let (first, rest) = row_number(rest)?;
-    let (times, _) = row_number(rest)?;
+    let (first, rest) = number::<u16>(rest)?;
+    let (times, _) = number(rest)?;
     let mut refused = 0usize;
     let mut last = Ok(UNTOUCHED);
     for code in first..first.saturating_add(times) {

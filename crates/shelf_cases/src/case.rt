@@ -1,6 +1,6 @@
 // A case: what a line asks of a shelf, and the answer that comes.
 use crate::call::{each, perform_call, send, spell_refusal};
-use crate::spelling::{Spelled, alike, number, row_number, spell_cells, word};
+use crate::spelling::{Spelled, number, spell_cells, word};
 use anyhow::anyhow;
 use cells::{CellKind, Day, Glyph};
 use rows::{Row, Shape};
@@ -25,19 +25,24 @@ fn spell_row(heap: Global, row: Row) -> Result<String, AllocError> {
     format!(in heap; "{shape}, length {length}, round {round}")
 }
 
+// What is said of a number that is not known.
+fn none(heap: Global) -> Result<String, AllocError> {
+    String::from_str(heap, "none")
+}
+
 fn row_of(heap: Global, shelf: &Shelf, text: &str) -> anyhow::Result<String> {
-    let (number, _) = row_number(text)?;
+    let (number, _) = number(text)?;
     match shelf.row(number) {
         Some(row) => Ok(spell_row(heap, row)?),
-        None => Ok(String::from_str(heap, "none")?),
+        None => Ok(none(heap)?),
     }
 }
 
 fn length(heap: Global, shelf: &Shelf, text: &str) -> anyhow::Result<String> {
-    let (number, _) = row_number(text)?;
+    let (number, _) = number(text)?;
     match shelf.length_of(number) {
         Some(length) => Ok(format!(in heap; "{length}")?),
-        None => Ok(String::from_str(heap, "none")?),
+        None => Ok(none(heap)?),
     }
 }
 
@@ -57,13 +62,10 @@ fn mixed_row(total: u64, row: Row) -> u64 {
 
 // A sum over all rows, so that one that was altered shows.
 fn sum(heap: Global, shelf: &Shelf) -> Result<String, AllocError> {
-    let mut total = 0u64;
-    for number in 1..1025u16 {
-        total = match shelf.row(number) {
-            Some(row) => mixed_row(total, row),
-            None => mixed(total, 3),
-        };
-    }
+    let total = (1..1025u16).fold(0u64, |total, number| match shelf.row(number) {
+        Some(row) => mixed_row(total, row),
+        None => mixed(total, 3),
+    });
     format!(in heap; "{total}")
 }
 
@@ -73,12 +75,11 @@ fn write_part<K: Spelled + Copy + Drop>(
     shelf: &Shelf,
     text: &str,
 ) -> anyhow::Result<String> {
-    let (number_written, rest) = row_number(text)?;
+    let (row, rest) = number(text)?;
     let (start, rest) = number(rest)?;
-    let (size, _) = number(rest)?;
-    let mut cells = Vec::new(heap);
-    alike(&mut cells, K::filler(), size)?;
-    let outcome = match shelf.write_out(number_written, start, cells.as_mut_slice()) {
+    let (size, _) = number::<usize>(rest)?;
+    let mut cells = vec![in heap; K::filler(); size]?;
+    let outcome = match shelf.write_out(row, start, cells.as_mut_slice()) {
         Ok(()) => String::from_str(heap, "ok")?,
         Err(refusal) => spell_refusal(heap, refusal)?,
     };
@@ -93,14 +94,11 @@ fn read<K: Spelled + Copy + Drop>(
     name: &str,
     rest: &str,
 ) -> anyhow::Result<String> {
-    if name == "row" {
-        row_of(heap, shelf, rest)
-    } else if name == "length" {
-        length(heap, shelf, rest)
-    } else if name == "sum" {
-        Ok(sum(heap, shelf)?)
-    } else {
-        write_part::<K>(heap, shelf, rest)
+    match name {
+        "row" => row_of(heap, shelf, rest),
+        "length" => length(heap, shelf, rest),
+        "sum" => Ok(sum(heap, shelf)?),
+        _ => write_part::<K>(heap, shelf, rest),
     }
 }
 
@@ -110,27 +108,21 @@ fn answer_of_kind<K: Spelled + Copy + Drop>(
     text: &str,
 ) -> anyhow::Result<String> {
     let (name, rest) = word(text);
-    if name == "new" {
-        Ok(empty::<K>(heap, shelf)?)
-    } else if name == "send" {
-        send::<K>(heap, shelf, rest)
-    } else if name == "each" {
-        each::<K>(heap, shelf, rest)
-    } else if name == "take" || name == "join" || name == "cut" {
-        perform_call::<K>(heap, shelf, text)
-    } else {
-        read::<K>(heap, shelf, name, rest)
+    match name {
+        "new" => Ok(empty::<K>(heap, shelf)?),
+        "send" => send::<K>(heap, shelf, rest),
+        "each" => each::<K>(heap, shelf, rest),
+        "take" | "join" | "cut" => perform_call::<K>(heap, shelf, text),
+        _ => read::<K>(heap, shelf, name, rest),
     }
 }
 
 // The answer to a line, which begins with the kind of cell that it is about.
 pub(crate) fn answer(heap: Global, shelf: &mut Shelf, line: &str) -> anyhow::Result<String> {
     let (kind, rest) = word(line);
-    if kind == "glyphs" {
-        answer_of_kind::<Glyph>(heap, shelf, rest)
-    } else if kind == "days" {
-        answer_of_kind::<Day>(heap, shelf, rest)
-    } else {
-        Err(anyhow!("a line names no kind"))
+    match kind {
+        "glyphs" => answer_of_kind::<Glyph>(heap, shelf, rest),
+        "days" => answer_of_kind::<Day>(heap, shelf, rest),
+        _ => Err(anyhow!("a line names no kind")),
     }
 }

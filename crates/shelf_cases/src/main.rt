@@ -11,27 +11,7 @@ use case::answer;
 use cells::Glyph;
 use shelf::shelf::Shelf;
 use std::fs;
-
-// How many cases were run, and how many of them agree.
-#[derive(Clone, Copy)]
-struct Tally {
-    run: usize,
-    agree: usize,
-}
-
-impl Tally {
-    fn count(&mut self, agrees: bool) {
-        self.run = self.run.saturating_add(1);
-        if agrees {
-            self.agree = self.agree.saturating_add(1);
-        }
-    }
-
-    fn add(&mut self, other: Tally) {
-        self.run = self.run.saturating_add(other.run);
-        self.agree = self.agree.saturating_add(other.agree);
-    }
-}
+use tally::Tally;
 
 // What a line `asked = expected` asks, and the answer that it expects.
 fn parts(line: &str) -> (&str, &str) {
@@ -70,7 +50,7 @@ fn run_case(
 fn run_file(rt: &HostRuntime, name: &str, all: bool) -> anyhow::Result<Tally> {
     let text = fs::read_to_string(rt, name)?;
     let mut shelf = Shelf::new::<Glyph>();
-    let mut tally = Tally { run: 0, agree: 0 };
+    let mut tally = Tally::new();
     for line in text.lines() {
         if line.starts_with('#') {
             println!(rt; "{line}")?;
@@ -86,11 +66,11 @@ fn run(rt: &HostRuntime) -> anyhow::Result<()> {
     let mut total = run_file(rt, "cases.txt", true)?;
     for name in ["few_glyphs.txt", "many_glyphs.txt", "some_days.txt"] {
         let tally = run_file(rt, name, false)?;
-        println!(rt; "{name}: {} of {} agree", tally.agree, tally.run)?;
+        println!(rt; "{name}: {tally}")?;
         total.add(tally);
     }
     println!(rt; "{} of {} cases agree", total.agree, total.run)?;
-    if total.agree < total.run {
+    if !total.all_agree() {
         return Err(anyhow!("some cases do not agree"));
     }
     Ok(())

@@ -1,6 +1,8 @@
 // How cells and the numbers of a case are spelled.
 use cells::{CellKind, Day, Glyph};
 use std::alloc::{AllocError, Global};
+use std::error::Error;
+use std::str::FromStr;
 
 // A kind whose cells can be spelled with all their fields.
 pub trait Spelled: CellKind {
@@ -26,12 +28,6 @@ impl Spelled for Glyph {
     }
 }
 
-// The number before the next point, and the text after it.
-fn field(text: &str) -> anyhow::Result<(u8, &str)> {
-    let (digits, rest) = text.split_once('.').unwrap_or((text, ""));
-    Ok((digits.parse::<u8>()?, rest))
-}
-
 impl Spelled for Day {
     fn filler() -> Day {
         Day {
@@ -43,10 +39,10 @@ impl Spelled for Day {
     }
 
     fn read(word: &str) -> anyhow::Result<Day> {
-        let (day, rest) = field(word)?;
-        let (weekday, rest) = field(rest)?;
-        let (mark, rest) = field(rest)?;
-        let (note, _) = field(rest)?;
+        let (day, rest) = number_before(word, '.')?;
+        let (weekday, rest) = number_before(rest, '.')?;
+        let (mark, rest) = number_before(rest, '.')?;
+        let (note, _) = number_before(rest, '.')?;
         Ok(Day {
             day,
             weekday,
@@ -65,28 +61,21 @@ pub(crate) fn word(text: &str) -> (&str, &str) {
     text.split_once(' ').unwrap_or((text, ""))
 }
 
+// The number before the next mark of this kind, and the text after it.
+fn number_before<T: FromStr>(text: &str, mark: char) -> anyhow::Result<(T, &str)>
+where
+    T::Err: Error + Drop,
+{
+    let (digits, rest) = text.split_once(mark).unwrap_or((text, ""));
+    Ok((digits.parse::<T>()?, rest))
+}
+
 // The number before the next space, and the text after it.
-pub(crate) fn number(text: &str) -> anyhow::Result<(usize, &str)> {
-    let (digits, rest) = word(text);
-    Ok((digits.parse::<usize>()?, rest))
-}
-
-// The same for the number of a row.
-pub(crate) fn row_number(text: &str) -> anyhow::Result<(u16, &str)> {
-    let (digits, rest) = word(text);
-    Ok((digits.parse::<u16>()?, rest))
-}
-
-// As many cells alike.
-pub(crate) fn alike<K: CellKind + Copy>(
-    cells: &mut Vec<K>,
-    cell: K,
-    times: usize,
-) -> Result<(), AllocError> {
-    for _ in 0..times {
-        cells.push(cell)?;
-    }
-    Ok(())
+pub(crate) fn number<T: FromStr>(text: &str) -> anyhow::Result<(T, &str)>
+where
+    T::Err: Error + Drop,
+{
+    number_before(text, ' ')
 }
 
 // Cells with spaces between; `5x3` is three cells.
@@ -94,7 +83,8 @@ pub(crate) fn read_cells<K: Spelled + Copy>(heap: Global, text: &str) -> anyhow:
     let mut cells = Vec::new(heap);
     for word in text.split_whitespace() {
         let (cell, times) = word.split_once('x').unwrap_or((word, "1"));
-        alike(&mut cells, K::read(cell)?, times.parse::<usize>()?)?;
+        let len = cells.len().saturating_add(times.parse::<usize>()?);
+        cells.resize(len, K::read(cell)?)?;
     }
     Ok(cells)
 }

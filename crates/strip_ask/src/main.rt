@@ -1,31 +1,26 @@
 // Answers questions about a strip: reads lines from standard input, and prints a line for each question.
 #![tactic(auto)]
 
-mod fault;
-
 use ask::transcript;
-use fault::Fault;
+use failures::Failure;
 use std::io::{Read, Write};
 use std::process::ExitCode;
 
-fn run(rt: &HostRuntime) -> Result<(), Fault> {
+fn run(rt: &HostRuntime) -> Result<(), Failure> {
     let heap = rt.alloc();
     let mut text = Vec::new(heap);
-    if let Err(error) = rt.stdin().read_to_end(&mut text) {
-        return Err(Fault::Read(error));
-    }
+    rt.stdin().read_to_end(&mut text).map_err(Failure::Read)?;
     let answers = transcript(heap, text.as_slice())?;
-    match rt.stdout().write_all(answers.as_bytes()) {
-        Ok(()) => Ok(()),
-        Err(error) => Err(Fault::Write(error)),
-    }
+    rt.stdout()
+        .write_all(answers.as_bytes())
+        .map_err(Failure::Write)
 }
 
 fn main(rt: HostRuntime) -> ExitCode {
     match run(&rt) {
         Ok(()) => ExitCode::SUCCESS,
-        Err(fault) => {
-            let _ = eprintln!(rt; "strip_ask: {fault}");
+        Err(failure) => {
+            let _ = eprintln!(rt; "strip_ask: {failure}");
             ExitCode::FAILURE
         }
     }
