@@ -81,8 +81,7 @@ impl<A: Asking> Asking for Through<A> {
         match self.layers.window {
             Some(part) => self.ask_turned(&Window {
                 below: keeper,
-                start: part.start,
-                length: part.length,
+                part,
             }),
             None => self.ask_turned(keeper),
         }
