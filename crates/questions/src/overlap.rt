@@ -53,7 +53,8 @@ impl<K: Keeper> Parts<'_, K> {
         self.common_ahead(self.first.start, suffix) >= size
     }
 
-    // The lengths to look at: from `least` on and below twice `least`, as far as both fragments have room.
+    // The lengths to look at: from `least` on and below twice `least`, as far as both fragments have room. A
+    // function of its own, so that a wrong end is refused here.
     fn lengths(&self, least: usize) -> Range<usize>
         ensures { result ≡ record { start = least; end = min (least + least) (min self.now.first.length self.now.second.length + 1) } }
     {

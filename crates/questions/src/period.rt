@@ -37,7 +37,8 @@ fn borders_record(length: usize, borders: Progression) -> Progression
     }
 }
 
-// The ranges of borders below 2^16, greatest first.
+// The ranges of borders below 2^16, greatest first. A function of its own, as `unused` and `length_record`
+// are, so that a wrong one is refused at its contract.
 fn border_ranges() -> Rev<Range<u32>>
     ensures { rev_source result ≡ record { start = 0; end = 16 } }
 {
