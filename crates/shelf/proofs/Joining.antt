@@ -1,7 +1,8 @@
 -- Joins and cuts, check by check, from what the table keeps. Assumes nothing.
-use Rattle.std.proofs.Common.{◌≡◌, ℕ, ◌+◌, ◌<◌, ◌≤◌, ◌⊎◌, List, ◌++◌, length, Err, Result, ap, ◌∙◌, arith, length-append, length-drop, length-take}
+use Rattle.std.proofs.Common.{◌≡◌, ℕ, ◌+◌, ◌<◌, ◌≤◌, ◌⊎◌, List, ◌++◌, length, Err, Result, sym, ap, ◌∙◌, subst, arith, length-append, length-drop, length-take}
 use Rattle.book.specs.Calls.{settling, filing, joined_up, part_of, cut_out}
-use Rattle.book.proofs.CallFacts.{joined_unknown, joined_long, joined_filed, cut_unknown, cut_leaves, cut_filed}
+use Rattle.book.specs.Laws.{OfKind}
+use Rattle.book.proofs.CallFacts.{joined_unknown, joined_long, joined_filed, joined_of_kind, joined_stays, cut_unknown, cut_leaves, cut_filed, cut_of_kind, cut_stays}
 use Rattle.rows.specs.declared.Row.{Row}
 use Rattle.rows.specs.Filing.{row_of}
 use Rattle.rows.specs.Lawful.{Lawful}
@@ -10,10 +11,10 @@ use Rattle.recompression.specs.Expansions.{written_out}
 use Rattle.recompression.specs.Settling.{all_rounds}
 use Rattle.shelf.specs.declared.refusal.Refusal.{Refusal}
 use Rattle.shelf.specs.declared.refusal.Refusal.TheVariants.{TooLong, WorkAreaTooShort, UnknownNumber, FragmentLeavesStrip}
-use Rattle.shelf.specs.Refusals.{ComesTo}
+use Rattle.shelf.specs.Refusals.{ComesTo, Writes}
 use Rattle.shelf.proofs.Expanding.{joined_rounds, cut_rounds}
 use Rattle.shelf.proofs.RowFacts.{kept_length}
-use Rattle.shelf.proofs.Settlings.{told_short, filing_enough, comes_by, comes_refused}
+use Rattle.shelf.proofs.Settlings.{told_short, filing_enough, comes_by, comes_refused, stays_from}
 
 module _ (rows : List Row) (law : Lawful rows) (left right places : ℕ) where
   pub join_unknown : (after : List Row) → (length rows < left) ⊎ (length rows < right) → after ≡ rows → ComesTo (Err UnknownNumber) after (joined_up rows left right places)
@@ -83,3 +84,20 @@ module _ (rows : List Row) (law : Lawful rows) (n start size places : ℕ) where
           let many = length_part in
           comes_by r after (settling rows (all_rounds rows numbers)) (cut_out rows n start size places)
           (cut_filed rows n start size places known fits ∙ filing_enough rows (part_of rows n start size) places (omega arith) ∙ ap (settling rows) (cut_rounds rows law n start size numbers is)) comes
+
+-- what a join or a cut leaves of the rows' kinds, and what its number writes, from what it comes to
+pub join_writes : (rows : List Row) → Lawful rows → (left right places : ℕ) (r : Result ℕ Refusal) (after : List Row) → ComesTo r after (joined_up rows left right places)
+    → Writes (strip rows left ++ strip rows right) rows (joined_up rows left right places) r after
+join_writes rows law left right places r after comes = record {
+      outcome = comes;
+      kept = λ has of_kind. subst (OfKind has) (sym comes.1) (joined_of_kind has rows of_kind left right places);
+      back = stays_from (strip rows left ++ strip rows right) r after (joined_up rows left right places) comes (joined_stays rows left right places law);
+    }
+
+pub cut_writes : (rows : List Row) → Lawful rows → (n start size places : ℕ) (r : Result ℕ Refusal) (after : List Row) → ComesTo r after (cut_out rows n start size places)
+    → Writes (part_of rows n start size) rows (cut_out rows n start size places) r after
+cut_writes rows law n start size places r after comes = record {
+      outcome = comes;
+      kept = λ has of_kind. subst (OfKind has) (sym comes.1) (cut_of_kind has rows of_kind n start size places);
+      back = stays_from (part_of rows n start size) r after (cut_out rows n start size places) comes (cut_stays rows n start size places law);
+    }

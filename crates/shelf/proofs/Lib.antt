@@ -1,6 +1,7 @@
 mod RowFacts
 mod LeafLoop
 mod Settlings
+mod Taking
 mod CellLoop
 mod Expanding
 mod Joining

@@ -12,7 +12,7 @@ use Rattle.shelf.specs.declared.request.Sent.{Sent}
 abbrev pub call_of : {C : Type 0} → Request C → Call C
 call_of (Take cells) = taking cells.now
 call_of (Join left right) = joining left right
-call_of (Cut number start size) = cutting number start size
+call_of (Cut number part) = cutting number part.start part.length
 
 -- with the places that it may use, at most those there are
 abbrev pub sent_with : {C : Type 0} → ℕ → Sent C → book.Sent C

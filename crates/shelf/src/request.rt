@@ -1,5 +1,6 @@
 // Requests to a shelf: takes, joins and cuts that are sent as a list.
 use crate::refusal::Refusal;
+use periodicity::Fragment;
 
 // What a request asks for.
 #[derive(Clone, Copy)]
@@ -16,8 +17,7 @@ pub enum Request<'a, K> {
     // The number that a part of a strip comes to.
     Cut {
         number: u16,
-        start: usize,
-        size: usize,
+        part: Fragment,
     },
 }
 

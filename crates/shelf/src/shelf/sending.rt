@@ -23,11 +23,7 @@ impl Shelf {
         match sent.request {
             Request::Take { cells } => self.take(cells, area),
             Request::Join { left, right } => self.join(left, right, area),
-            Request::Cut {
-                number,
-                start,
-                size,
-            } => self.cut(number, start, size, area),
+            Request::Cut { number, part } => self.cut(number, part, area),
         }
     }
 
@@ -43,8 +39,9 @@ impl Shelf {
         ensures answers { map told answers.new ≡ answers_of (self.old.kind == K.tag) K.coded (rows_on self.old) (calls_sent (length work.old) requests.now) }
         ensures kind { self.new.kind ≡ self.old.kind }
     {
-        for i in 0..requests.len() {
-            answers[i] = self.perform(&requests[i], work);
+        // No `zip`: a proof knows nothing of what was written through an adapter of `iter_mut`.
+        for (i, request) in requests.iter().enumerate() {
+            answers[i] = self.perform(request, work);
         }
     }
 

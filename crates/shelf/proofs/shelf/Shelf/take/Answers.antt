@@ -9,12 +9,6 @@ use Rattle.shelf.specs.Contents.{rows_on}
 use Rattle.shelf.proofs.Settlings.{back_from}
 use Rattle.shelf.proofs.shelf.Shelf.take.Goals as goal
 
-pub invariant_of-self : goal.invariant_of-self
-invariant_of-self g c =
-    let K = g.K.CellKind in
-    let shelf = c.args.self.now in
-    record { lawful = subst Lawful (sym c.take_on.ensures.1) (taken_lawful K.coded (rows_on shelf) c.args.cells.now (length c.args.work.now) shelf.lawful (eqb shelf.kind K.tag)) }
-
 pub returns : goal.returns
 returns g c =
     let K = g.K.CellKind in
@@ -23,12 +17,12 @@ returns g c =
     let places = length c.args.work.now in
     let t = taken (eqb shelf.kind K.tag) K.coded (rows_on shelf) c.args.cells.now places in
     record {
-      outcome = c.take_on.ensures;
-      kind = refl;
+      outcome = c.take_on.ensures.outcome;
+      kind = c.take_on.ensures.kind;
       cleared = search rules;
-      kept = λ of_kind. subst (OfKind K.has) (sym c.take_on.ensures.1)
+      kept = λ of_kind. subst (OfKind K.has) (sym c.take_on.ensures.outcome.1)
           (taken_told K.coded K.has K.given K.same (record { alike = laws.alike; known = laws.known; back = laws.back }) (rows_on shelf) shelf.lawful of_kind (eqb shelf.kind K.tag) c.args.cells.now places).of_kind;
-      back = back_from K.same K.given c.args.cells.now c.take_on.result (rows_in c.take_on.new.table) t c.take_on.ensures
+      back = back_from K.same K.given c.args.cells.now c.take_on.result (rows_on c.take_on.new.self) t c.take_on.ensures.outcome
           (written_back K.coded K.has K.given K.same (record { alike = laws.alike; known = laws.known; back = laws.back })
           (eqb shelf.kind K.tag) (rows_on shelf) c.args.cells.now places shelf.lawful);
     }
