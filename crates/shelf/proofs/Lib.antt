@@ -7,3 +7,4 @@ mod Expanding
 mod Joining
 mod SendLoop
 mod Histories
+mod Beginning

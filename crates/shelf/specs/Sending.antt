@@ -1,12 +1,14 @@
 -- Requests as calls of the book. Assumes nothing.
-use Rattle.std.specs.Prelude.{◌≡◌, ℕ, min, Bool, true, List, [], ◌++◌, map, Option}
+use Rattle.std.specs.Prelude.{◌≡◌, ℕ, min, Bool, true, List, [], ◌++◌, map, take, drop, Option, Result}
 use Rattle.book.specs.Calls.{Call, Answer, taking, joining, cutting}
-use Rattle.book.specs.Laws.{OneNumber}
+use Rattle.book.specs.Laws.{OfKind, OneNumber}
 use Rattle.book.specs.Runs as book
 use Rattle.rows.specs.declared.Row.{Row}
 use Rattle.shelf.specs.declared.request.Request.{Request}
 use Rattle.shelf.specs.declared.request.Request.TheVariants.{Take, Join, Cut}
 use Rattle.shelf.specs.declared.request.Sent.{Sent}
+use Rattle.shelf.specs.declared.refusal.Refusal.{Refusal}
+use Rattle.shelf.specs.Refusals.{told}
 
 -- the call that a request is
 abbrev pub call_of : {C : Type 0} → Request C → Call C
@@ -31,3 +33,14 @@ pub record GoesOn {C : Type 0} (coded : C → Option ℕ) (given : ℕ → C) (s
 abbrev pub AnyHistory : {C : Type 0} → (C → Option ℕ) → (ℕ → C) → (C → C → Type 0) → Bool → List Row → List (book.Sent C) → List Answer → List Row → Type 0
 AnyHistory {C} coded given same same_kind before calls answers after =
     (past : List (book.Sent C)) → same_kind ≡ true → before ≡ book.rows_after true coded [] past → GoesOn coded given same past calls answers after
+
+-- calls sent to a shelf, with `count` places for their answers: its rows and the answers are those of the book,
+-- the other places stay as they were, rows of the kind stay of the kind, and the law of one number holds of the
+-- answers, and of those of the whole history
+pub record SentTo {C : Type 0} (coded : C → Option ℕ) (has : ℕ → Bool) (given : ℕ → C) (same : C → C → Type 0) (same_kind : Bool) (before : List Row) (calls : List (book.Sent C)) (count : ℕ) (old new : List (Result ℕ Refusal)) (after : List Row) : Type 0 where
+  pub rows : after ≡ book.rows_after same_kind coded before calls
+  pub answers : map told (take count new) ≡ book.answers_of same_kind coded before calls
+  pub others : drop count new ≡ drop count old
+  pub kept : OfKind has before → OfKind has after
+  pub law : OfKind has before → OneNumber same (map told (take count new)) (book.strips_of same_kind coded given before calls)
+  pub history : AnyHistory coded given same same_kind before calls (map told (take count new)) after

@@ -30,13 +30,15 @@ returns g c =
     let kind_laws : KindLaws K.coded K.has K.given K.same = record { alike = laws.alike; known = laws.known; back = laws.back } in
     record {
       performed = c.min-count.ensures;
-      rows = rows_are;
-      answers = told_are;
-      others = drop_at c.send_all.new.answers (drop (count - 0) c.args.answers.now) count long ∙ ap (λ k. drop k c.args.answers.now) whole;
+      sent = record {
+        rows = rows_are;
+        answers = told_are;
+        others = drop_at c.send_all.new.answers (drop (count - 0) c.args.answers.now) count long ∙ ap (λ k. drop k c.args.answers.now) whole;
+        kept = λ of_kind. subst (OfKind K.has) (sym rows_are) (ran same_kind K.coded K.has K.given K.same kind_laws (rows_on shelf) shelf.lawful of_kind sents).of_kind;
+        law = λ of_kind. subst (λ xs. OneNumber K.same xs (strips_of same_kind K.coded K.given (rows_on shelf) sents)) (sym told_are)
+            (one_number_of_run same_kind K.coded K.has K.given K.same kind_laws (rows_on shelf) shelf.lawful of_kind sents);
+        history = λ past same is. goes_on K.coded K.has K.given K.same kind_laws same_kind (rows_on shelf) past sents _ _ same is rows_are told_are;
+      };
       kind = c.send_all.ensures.kind;
       cleared = search rules;
-      kept = λ of_kind. subst (OfKind K.has) (sym rows_are) (ran same_kind K.coded K.has K.given K.same kind_laws (rows_on shelf) shelf.lawful of_kind sents).of_kind;
-      law = λ of_kind. subst (λ xs. OneNumber K.same xs (strips_of same_kind K.coded K.given (rows_on shelf) sents)) (sym told_are)
-          (one_number_of_run same_kind K.coded K.has K.given K.same kind_laws (rows_on shelf) shelf.lawful of_kind sents);
-      history = λ past same is. goes_on K.coded K.has K.given K.same kind_laws same_kind (rows_on shelf) past sents _ _ same is rows_are told_are;
     }
