@@ -112,7 +112,7 @@ impl Desk {
         ensures done { Does (standing_of self.old) (Command.Cut number part) (told_in result ∷ []) (standing_of self.new) }
         ensures kind { self.new.shelf.kind ≡ self.old.shelf.kind }
     {
-        Line::Cut(self.shelf.cut(number, part.start, part.length, work))
+        Line::Cut(self.shelf.cut(number, part, work))
     }
 
     // Asks for the places of a pattern in a field of a number's strip.

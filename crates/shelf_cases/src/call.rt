@@ -2,6 +2,7 @@
 use crate::spelling::{Spelled, number, read_cells, row_number, word};
 use anyhow::anyhow;
 use cells::CellKind;
+use periodicity::Fragment;
 use shelf::refusal::Refusal;
 use shelf::request::{Answer, Request, Sent};
 use shelf::shelf::Shelf;
@@ -22,8 +23,7 @@ enum Act {
     },
     Cut {
         number: u16,
-        start: usize,
-        size: usize,
+        part: Fragment,
     },
 }
 
@@ -43,11 +43,10 @@ fn read_join(text: &str) -> anyhow::Result<Act> {
 fn read_cut(text: &str) -> anyhow::Result<Act> {
     let (number_cut, rest) = row_number(text)?;
     let (start, rest) = number(rest)?;
-    let (size, _) = number(rest)?;
+    let (length, _) = number(rest)?;
     Ok(Act::Cut {
         number: number_cut,
-        start,
-        size,
+        part: Fragment { start, length },
     })
 }
 
@@ -74,11 +73,7 @@ impl<K: Spelled + Copy + Drop> Call<K> {
         match self.act {
             Act::Take => shelf.take(self.cells.as_slice(), work),
             Act::Join { left, right } => shelf.join(left, right, work),
-            Act::Cut {
-                number,
-                start,
-                size,
-            } => shelf.cut(number, start, size, work),
+            Act::Cut { number, part } => shelf.cut(number, part, work),
         }
     }
 
@@ -88,15 +83,7 @@ impl<K: Spelled + Copy + Drop> Call<K> {
                 cells: self.cells.as_slice(),
             },
             Act::Join { left, right } => Request::Join { left, right },
-            Act::Cut {
-                number,
-                start,
-                size,
-            } => Request::Cut {
-                number,
-                start,
-                size,
-            },
+            Act::Cut { number, part } => Request::Cut { number, part },
         };
         Sent {
             request,

@@ -42,6 +42,7 @@ impl Shelf {
     }
 
     // The length of a known number's strip.
+    #[tactic(auto, using(crate::proofs::RowFacts::length_known))]
     pub fn length_of(&self, number: u16) -> Option<usize>
         ensures { result ≡ length_at (rows_on self.now) number }
     {

@@ -10,8 +10,8 @@ use Rattle.shelf.specs.Sending.{calls_sent}
 use Rattle.shelf.proofs.Histories.{goes_on}
 use Rattle.shelf.proofs.shelf.Shelf.send.Goals as goal
 
-pub returns : goal.returns
-returns g c =
+pub returns-clause-sent : goal.returns-clause-sent
+returns-clause-sent g c =
     let K = g.K.CellKind in
     let laws = g.met.K.CellKind in
     let shelf = c.args.self.now in
@@ -29,16 +29,11 @@ returns g c =
     c.send_all.ensures.rows ∙ ap (λ k. rows_after same_kind K.coded (rows_on shelf) (calls_sent area (take k requests))) whole in
     let kind_laws : KindLaws K.coded K.has K.given K.same = record { alike = laws.alike; known = laws.known; back = laws.back } in
     record {
-      performed = c.min-count.ensures;
-      sent = record {
-        rows = rows_are;
-        answers = told_are;
-        others = drop_at c.send_all.new.answers (drop (count - 0) c.args.answers.now) count long ∙ ap (λ k. drop k c.args.answers.now) whole;
-        kept = λ of_kind. subst (OfKind K.has) (sym rows_are) (ran same_kind K.coded K.has K.given K.same kind_laws (rows_on shelf) shelf.lawful of_kind sents).of_kind;
-        law = λ of_kind. subst (λ xs. OneNumber K.same xs (strips_of same_kind K.coded K.given (rows_on shelf) sents)) (sym told_are)
-            (one_number_of_run same_kind K.coded K.has K.given K.same kind_laws (rows_on shelf) shelf.lawful of_kind sents);
-        history = λ past same is. goes_on K.coded K.has K.given K.same kind_laws same_kind (rows_on shelf) past sents _ _ same is rows_are told_are;
-      };
-      kind = c.send_all.ensures.kind;
-      cleared = search rules;
+      rows = rows_are;
+      answers = told_are;
+      others = drop_at c.send_all.new.answers (drop (count - 0) c.args.answers.now) count long ∙ ap (λ k. drop k c.args.answers.now) whole;
+      kept = λ of_kind. subst (OfKind K.has) (sym rows_are) (ran same_kind K.coded K.has K.given K.same kind_laws (rows_on shelf) shelf.lawful of_kind sents).of_kind;
+      law = λ of_kind. subst (λ xs. OneNumber K.same xs (strips_of same_kind K.coded K.given (rows_on shelf) sents)) (sym told_are)
+          (one_number_of_run same_kind K.coded K.has K.given K.same kind_laws (rows_on shelf) shelf.lawful of_kind sents);
+      history = λ past same is. goes_on K.coded K.has K.given K.same kind_laws same_kind (rows_on shelf) past sents _ _ same is rows_are told_are;
     }
