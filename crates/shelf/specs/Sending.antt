@@ -34,9 +34,9 @@ abbrev pub AnyHistory : {C : Type 0} → (C → Option ℕ) → (ℕ → C) → 
 AnyHistory {C} coded given same same_kind before calls answers after =
     (past : List (book.Sent C)) → same_kind ≡ true → before ≡ book.rows_after true coded [] past → GoesOn coded given same past calls answers after
 
--- calls sent to a shelf, with `count` places for their answers: its rows and the answers are those of the book,
--- the other places stay as they were, rows of the kind stay of the kind, and the law of one number holds of the
--- answers, and of those of the whole history
+-- calls sent to a shelf, with `count` places for their answers: its rows and the answers are those of the book, and
+-- the other places stay as they were. Rows of the kind stay of it, and then the law of one number holds of the
+-- answers; and so it does over any history
 pub record SentTo {C : Type 0} (coded : C → Option ℕ) (has : ℕ → Bool) (given : ℕ → C) (same : C → C → Type 0) (same_kind : Bool) (before : List Row) (calls : List (book.Sent C)) (count : ℕ) (old new : List (Result ℕ Refusal)) (after : List Row) : Type 0 where
   pub rows : after ≡ book.rows_after same_kind coded before calls
   pub answers : map told (take count new) ≡ book.answers_of same_kind coded before calls
@@ -44,3 +44,11 @@ pub record SentTo {C : Type 0} (coded : C → Option ℕ) (has : ℕ → Bool) (
   pub kept : OfKind has before → OfKind has after
   pub law : OfKind has before → OneNumber same (map told (take count new)) (book.strips_of same_kind coded given before calls)
   pub history : AnyHistory coded given same same_kind before calls (map told (take count new)) after
+
+-- calls sent to a new shelf of the kind: the same by a book that begins with no rows, with nothing assumed
+pub record Begun {C : Type 0} (coded : C → Option ℕ) (has : ℕ → Bool) (given : ℕ → C) (same : C → C → Type 0) (calls : List (book.Sent C)) (count : ℕ) (old new : List (Result ℕ Refusal)) (after : List Row) : Type 0 where
+  pub rows : after ≡ book.rows_after true coded [] calls
+  pub answers : map told (take count new) ≡ book.answers_of true coded [] calls
+  pub others : drop count new ≡ drop count old
+  pub kept : OfKind has after
+  pub law : OneNumber same (map told (take count new)) (book.strips_of true coded given [] calls)

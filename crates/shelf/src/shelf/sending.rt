@@ -1,10 +1,10 @@
 // Sending: a list of takes, joins and cuts, each working on what the earlier ones left.
-ghost use Rattle.std.specs.Prelude.{◌≡◌, min, true, [], map, length, take, replicate, ◌==◌};
+ghost use Rattle.std.specs.Prelude.{◌≡◌, min, map, length, take, replicate, ◌==◌};
 ghost use Rattle.book.specs.Calls.{turn};
 ghost use Rattle.book.specs.Runs.{rows_after, answers_of};
 ghost use Rattle.shelf.specs.Contents.{rows_on};
 ghost use Rattle.shelf.specs.Refusals.{told, ComesTo};
-ghost use Rattle.shelf.specs.Sending.{SentTo, call_of, calls_sent};
+ghost use Rattle.shelf.specs.Sending.{Begun, SentTo, call_of, calls_sent};
 
 use crate::request::{Answer, Request, Sent};
 use crate::shelf::Shelf;
@@ -65,15 +65,14 @@ impl Shelf {
         count
     }
 
-    // A new shelf of a kind and the requests sent to it, told by a book that is fed the requests alone. No rows
-    // are of every kind, so the law holds of all answers.
+    // A new shelf of a kind and the requests sent to it, told by a book that is fed the requests alone.
     #[tactic(auto, using(crate::proofs::Beginning::begun))]
     pub fn begin<K: CellKind>(
         requests: &[Sent<K>],
         answers: &mut [Answer],
         work: &mut [u16],
     ) -> Shelf
-        ensures sent { let count = min (length requests.now) (length answers.old) in SentTo K.coded K.has K.given K.same true [] (calls_sent (length work.old) (take count requests.now)) count answers.old answers.new (rows_on result) }
+        ensures begun { let count = min (length requests.now) (length answers.old) in Begun K.coded K.has K.given K.same (calls_sent (length work.old) (take count requests.now)) count answers.old answers.new (rows_on result) }
         ensures kind { result.kind ≡ K.tag }
         ensures cleared { work.new ≡ replicate (length work.old) 0 }
     {
