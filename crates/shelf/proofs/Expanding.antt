@@ -18,13 +18,6 @@ pub expanded_all : (rows : List Row) (n start : ℕ) (old : List ℕ) (r : Bool)
 expanded_all rows n start old true new h fits = h.1
 expanded_all rows n start old false new h fits = absurd (omega (arith, h.0))
 
--- a list written in two parts
-pub both_written : (front rest back : List ℕ) (m : ℕ) → length front ≡ m → take m (front ++ rest) ++ (back ++ drop (length (front ++ rest) - m) (drop m (front ++ rest))) ≡ front ++ back
-both_written front rest back m long =
-    ap (λ xs. xs ++ (back ++ drop (length (front ++ rest) - m) (drop m (front ++ rest)))) (take_at front rest m long)
-    ∙ ap (λ xs. front ++ (back ++ xs)) (drop_all (length (front ++ rest) - m) (drop m (front ++ rest)) (simp length-drop (omega arith)))
-    ∙ ap (λ xs. front ++ xs) (append-nil back)
-
 -- the rounds on leaf numbers are those on the strip that they are the leaves of
 pub settles_leaves : (rows : List Row) (codes numbers : List ℕ) → LeavesOf rows codes numbers → settle rows codes ≡ all_rounds rows numbers
 settles_leaves rows codes numbers named = settle_from_leaves rows rows codes numbers (leaves_found rows codes numbers named)

@@ -19,13 +19,6 @@ pub record Going (old : List Row) (codes : List ℕ) (i : ℕ) (rows : List Row)
   pub more : List Row
   pub grows : rows ≡ old ++ more
 
-pub none_filed : (old : List Row) (codes numbers : List ℕ) → Going old codes 0 old numbers
-none_filed old codes numbers = record { rest = whole (leaves old codes); more = []; grows = sym (append-nil old) }
-  where
-    whole : (o : Option Filed) → o ≡ then o (after [])
-    whole None = refl
-    whole (Some f) = refl
-
 module _ (old : List Row) (codes : List ℕ) (i : ℕ) (rows : List Row) (numbers : List ℕ) (going : Going old codes i rows numbers) (code : ℕ) (within : i < length codes) (is : get_or codes i 0 ≡ code) where
   front : map leaf_block (drop i codes) ≡ leaf_block code ∷ map leaf_block (drop (i + 1) codes)
   front = ap (map leaf_block) (drop_more codes i 0 within) ∙ ap (λ c. leaf_block c ∷ map leaf_block (drop (i + 1) codes)) is

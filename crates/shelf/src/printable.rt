@@ -40,6 +40,7 @@ impl<'a, K: CellKind> Printable<'a, K> {
         requires { length numbers.old ≡ length self.now.cells.now }
         ensures { LeavesFiled (rows_in table.old) (printed K.coded self.now.cells.now) result (rows_in table.new) numbers.new }
     {
+        // No `zip`: a proof knows nothing of what was written through an adapter of `iter_mut`.
         for (i, cell) in self.cells.iter().enumerate() {
             let Some(code) = cell.code() else {
                 return unreachable();
@@ -81,6 +82,6 @@ impl<'a, K: CellKind> Printable<'a, K> {
         if work.len() < size {
             return Err(Refusal::WorkAreaTooShort);
         }
-        self.settle_or_undo(table, &mut work[0..size])
+        self.settle_or_undo(table, &mut work[..size])
     }
 }

@@ -30,7 +30,7 @@ impl Shelf {
         if work.len() < part.length {
             return Err(Refusal::WorkAreaTooShort);
         }
-        let numbers = &mut work[0..part.length];
+        let numbers = &mut work[..part.length];
         expand_part(&self.table, number, part.start, numbers);
         settle_leaves(&mut self.table, numbers)
     }

@@ -65,7 +65,7 @@ impl Shelf {
         if work.len() < length {
             return Err(Refusal::WorkAreaTooShort);
         }
-        let numbers = &mut work[0..length];
+        let numbers = &mut work[..length];
         expand_both(&self.table, left, right, numbers);
         settle_leaves(&mut self.table, numbers)
     }

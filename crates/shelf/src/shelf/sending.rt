@@ -18,7 +18,7 @@ impl Shelf {
         ensures kind { self.new.kind ≡ self.old.kind }
     {
         let places = sent.places.min(work.len());
-        let area = &mut work[0..places];
+        let area = &mut work[..places];
         match sent.request {
             Request::Take { cells } => self.take(cells, area),
             Request::Join { left, right } => self.join(left, right, area),
@@ -61,7 +61,7 @@ impl Shelf {
     {
         let work = WorkArea(work);
         let count = requests.len().min(answers.len());
-        self.send_all(&requests[0..count], &mut answers[0..count], work.0);
+        self.send_all(&requests[..count], &mut answers[..count], work.0);
         count
     }
 

@@ -45,7 +45,7 @@ pub settle_leaves-requires : goal.settle_leaves-requires
 settle_leaves-requires c =
     let shelf = c.args.self.now in
     let told = known_told (rows_on shelf) shelf.lawful c.args.number c.in-Some.whole c.in-Some.ensures in
-    let all : length (take (c.args.part.length - 0) c.args.work.now) ≡ c.args.part.length = simp length-take (omega arith) in
+    let all : length (take c.args.part.length c.args.work.now) ≡ c.args.part.length = simp length-take (omega arith) in
     omega arith
 
 pub invariant_of-self : goal.invariant_of-self
@@ -53,7 +53,7 @@ invariant_of-self c =
     let shelf = c.args.self.now in
     let part = c.args.part in
     let told = known_told (rows_on shelf) shelf.lawful c.args.number c.in-Some.whole c.in-Some.ensures in
-    let all : length (take (c.args.part.length - 0) c.args.work.now) ≡ c.args.part.length = simp length-take (omega arith) in
+    let all : length (take c.args.part.length c.args.work.now) ≡ c.args.part.length = simp length-take (omega arith) in
     let settled = settled_cut (rows_on shelf) shelf.lawful c.args.number part.start part.length (length c.args.work.now) told.0 (omega arith)
     c.settle_leaves.result (rows_in c.settle_leaves.new.table) c.expand_part.new.out (omega arith) (c.expand_part.ensures ∙ ap (written_out (rows_on shelf) c.args.number part.start) all) c.settle_leaves.ensures in
     record { lawful = subst Lawful (sym settled.outcome.1) (cut_lawful (rows_on shelf) c.args.number part.start part.length (length c.args.work.now) shelf.lawful) }
@@ -63,6 +63,6 @@ returns-clause-writes c =
     let shelf = c.args.self.now in
     let part = c.args.part in
     let told = known_told (rows_on shelf) shelf.lawful c.args.number c.in-Some.whole c.in-Some.ensures in
-    let all : length (take (c.args.part.length - 0) c.args.work.now) ≡ c.args.part.length = simp length-take (omega arith) in
+    let all : length (take c.args.part.length c.args.work.now) ≡ c.args.part.length = simp length-take (omega arith) in
     settled_cut (rows_on shelf) shelf.lawful c.args.number part.start part.length (length c.args.work.now) told.0 (omega arith)
     c.settle_leaves.result (rows_in c.settle_leaves.new.table) c.expand_part.new.out (omega arith) (c.expand_part.ensures ∙ ap (written_out (rows_on shelf) c.args.number part.start) all) c.settle_leaves.ensures
