@@ -1,7 +1,7 @@
 -- Cells written one after the other from the codes of a strip. Assumes nothing.
 use Rattle.std.proofs.Common.{◌≡◌, ℕ, ◌+◌, ◌<◌, ◌≤◌, ltb, List, [], ◌∷◌, ◌++◌, map, length, get_or, take, drop, set, Some, None, sym, ap, ◌∙◌, arith, length-drop, length-take, get_or-drop}
 use lib.ListN.{length-map}
-use Rattle.std.proofs.lemmas.List.{append_assoc, append-nil, take_more, drop_more, drop_all, set_at, map-append}
+use Rattle.std.proofs.lemmas.List.{append_assoc, take_more, drop_more, set_at, map-append}
 use Rattle.std.proofs.lemmas.Bool.{cond-true, lt-ltb}
 use Rattle.rows.specs.declared.Row.{Row}
 use Rattle.rows.specs.Filing.{row_of}

@@ -23,10 +23,10 @@ module _ (rows : List Row) (law : Lawful rows) (left right places : ℕ) where
   -- what a join leaves of the rows' kinds, and what its number writes, from what it comes to
   joined : (r : Result ℕ Refusal) (after : List Row) → ComesTo r after (joined_up rows left right places) → Joined r after
   joined r after comes = record {
-        outcome = comes;
-        kept = λ has of_kind. subst (OfKind has) (sym comes.1) (joined_of_kind has rows of_kind left right places);
-        back = stays_from (strip rows left ++ strip rows right) r after (joined_up rows left right places) comes (joined_stays rows left right places law);
-      }
+    outcome = comes;
+    kept = λ has of_kind. subst (OfKind has) (sym comes.1) (joined_of_kind has rows of_kind left right places);
+    back = stays_from (strip rows left ++ strip rows right) r after (joined_up rows left right places) comes (joined_stays rows left right places law);
+  }
 
   pub join_unknown : (length rows < left) ⊎ (length rows < right) → Joined (Err UnknownNumber) rows
   join_unknown past = joined (Err UnknownNumber) rows (comes_refused UnknownNumber rows rows (joined_up rows left right places) (joined_unknown rows left right places past) refl)
@@ -73,10 +73,10 @@ module _ (rows : List Row) (law : Lawful rows) (n start size places : ℕ) where
   -- the same of a cut
   cut : (r : Result ℕ Refusal) (after : List Row) → ComesTo r after (cut_out rows n start size places) → Cut r after
   cut r after comes = record {
-        outcome = comes;
-        kept = λ has of_kind. subst (OfKind has) (sym comes.1) (cut_of_kind has rows of_kind n start size places);
-        back = stays_from (part_of rows n start size) r after (cut_out rows n start size places) comes (cut_stays rows n start size places law);
-      }
+    outcome = comes;
+    kept = λ has of_kind. subst (OfKind has) (sym comes.1) (cut_of_kind has rows of_kind n start size places);
+    back = stays_from (part_of rows n start size) r after (cut_out rows n start size places) comes (cut_stays rows n start size places law);
+  }
 
   pub unknown_cut : length rows < n → Cut (Err UnknownNumber) rows
   unknown_cut past = cut (Err UnknownNumber) rows (comes_refused UnknownNumber rows rows (cut_out rows n start size places) (cut_unknown rows n start size places past) refl)

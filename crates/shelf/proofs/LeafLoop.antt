@@ -1,5 +1,5 @@
 -- Leaves filed one after the other into a work area. Assumes nothing.
-use Rattle.std.proofs.Common.{◌≡◌, ℕ, ◌+◌, ◌<◌, ◌≤◌, List, [], ◌∷◌, ◌++◌, map, length, get_or, take, drop, set, Some, None, Option, unwrap_or, sym, refl, ap, ◌∙◌, arith}
+use Rattle.std.proofs.Common.{◌≡◌, ℕ, ◌+◌, ◌<◌, ◌≤◌, List, ◌∷◌, ◌++◌, map, length, get_or, take, drop, set, Some, None, Option, unwrap_or, sym, ap, ◌∙◌, arith}
 use lib.ListN.{length-map}
 use Rattle.std.proofs.lemmas.List.{append-nil, append_assoc, drop_more, drop_all, take_more_set, take_all, take-append-le}
 use Rattle.book.specs.Calls.{printed}
@@ -8,7 +8,7 @@ use Rattle.cells.specs.Printing.{first_unprintable}
 use Rattle.rows.specs.declared.Shape.TheVariants.{Leaf}
 use Rattle.rows.specs.declared.Row.{Row}
 use Rattle.rows.specs.Filing.{file}
-use Rattle.rows.specs.Rounds.{Filed, then, with_number, file_all, leaf_block, leaves}
+use Rattle.rows.specs.Rounds.{then, with_number, file_all, leaf_block, leaves}
 use Rattle.rows.proofs.FilingFacts.{file_grows}
 use Rattle.recompression.specs.Contents.{number_in, rows_left}
 use Rattle.recompression.proofs.RoundFacts.{filed_some, filed_none, after, after_more}

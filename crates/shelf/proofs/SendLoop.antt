@@ -1,6 +1,6 @@
 -- Requests performed one after the other. Assumes nothing.
-use Rattle.std.proofs.Common.{◌≡◌, ℕ, ◌+◌, ◌<◌, ◌≤◌, min, eqb, List, [], ◌∷◌, ◌++◌, map, length, get_or, take, set, Option, Result, sym, ap, ◌∙◌}
-use Rattle.std.proofs.lemmas.List.{take_more, take_more_set, take_all, map-append}
+use Rattle.std.proofs.Common.{◌≡◌, ℕ, ◌+◌, ◌<◌, min, eqb, List, [], ◌∷◌, ◌++◌, map, length, get_or, take, set, Option, Result, sym, ap, ◌∙◌}
+use Rattle.std.proofs.lemmas.List.{take_more, take_more_set, map-append}
 use Rattle.book.specs.Calls.{turn}
 use Rattle.book.specs.Runs.{rows_after, answers_of}
 use Rattle.book.proofs.RunFacts.{rows_push, answers_push}

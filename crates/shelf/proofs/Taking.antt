@@ -1,5 +1,5 @@
 -- Takes, check by check. Assumes nothing.
-use Rattle.std.proofs.Common.{◌≡◌, ℕ, ◌<◌, ◌≤◌, Bool, true, List, length, None, Some, Err, Option, Result, refl, subst}
+use Rattle.std.proofs.Common.{◌≡◌, ℕ, ◌≤◌, Bool, true, List, length, None, Some, Err, Option, Result, refl, subst}
 use Rattle.cells.specs.Printing.{first_unprintable}
 use Rattle.book.specs.Calls.{printed, filing, taken}
 use Rattle.book.proofs.CallFacts.{taken_long, taken_short}

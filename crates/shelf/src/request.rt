@@ -6,19 +6,11 @@ use periodicity::Fragment;
 #[derive(Clone, Copy)]
 pub enum Request<'a, K> {
     // The number that cells come to.
-    Take {
-        cells: &'a [K],
-    },
+    Take { cells: &'a [K] },
     // The number that two strips, one after the other, come to.
-    Join {
-        left: u16,
-        right: u16,
-    },
+    Join { left: u16, right: u16 },
     // The number that a part of a strip comes to.
-    Cut {
-        number: u16,
-        part: Fragment,
-    },
+    Cut { number: u16, part: Fragment },
 }
 
 // A request with the number of work places that it may use.

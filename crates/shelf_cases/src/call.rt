@@ -17,14 +17,8 @@ const UNTOUCHED: u16 = 60_000;
 #[derive(Clone, Copy)]
 enum Act {
     Take,
-    Join {
-        left: u16,
-        right: u16,
-    },
-    Cut {
-        number: u16,
-        part: Fragment,
-    },
+    Join { left: u16, right: u16 },
+    Cut { number: u16, part: Fragment },
 }
 
 #[derive(Drop)]

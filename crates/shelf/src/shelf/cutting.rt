@@ -12,12 +12,7 @@ use periodicity::Fragment;
 
 impl Shelf {
     // The number that a part of a number's strip comes to, on a work area that the caller clears.
-    fn cut_on(
-        &mut self,
-        number: u16,
-        part: Fragment,
-        work: &mut [u16],
-    ) -> Result<u16, Refusal>
+    fn cut_on(&mut self, number: u16, part: Fragment, work: &mut [u16]) -> Result<u16, Refusal>
         ensures writes { Writes (part_of (rows_on self.old) number part.start part.length) (rows_on self.old) (cut_out (rows_on self.old) number part.start part.length (length work.old)) result (rows_on self.new) }
         ensures kind { self.new.kind ≡ self.old.kind }
     {
@@ -36,12 +31,7 @@ impl Shelf {
     }
 
     // The number that a part of a number's strip comes to by the rounds. It writes that part, now and later.
-    pub fn cut(
-        &mut self,
-        number: u16,
-        part: Fragment,
-        work: &mut [u16],
-    ) -> Result<u16, Refusal>
+    pub fn cut(&mut self, number: u16, part: Fragment, work: &mut [u16]) -> Result<u16, Refusal>
         ensures outcome { ComesTo result (rows_on self.new) (cut_out (rows_on self.old) number part.start part.length (length work.old)) }
         ensures kept { KindKept (rows_on self.old) (rows_on self.new) }
         ensures kind { self.new.kind ≡ self.old.kind }

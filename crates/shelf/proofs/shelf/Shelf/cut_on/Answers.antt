@@ -1,4 +1,4 @@
-use Rattle.std.proofs.Common.{◌≡◌, ◌+◌, ◌-◌, ◌<◌, length, take, sym, ap, ◌∙◌, subst, arith, length-take}
+use Rattle.std.proofs.Common.{◌≡◌, ◌+◌, ◌<◌, length, take, sym, ap, ◌∙◌, subst, arith, length-take}
 use Rattle.book.proofs.CallFacts.{cut_lawful}
 use Rattle.recompression.specs.Contents.{rows_in}
 use Rattle.recompression.specs.Expansions.{written_out}

@@ -24,4 +24,3 @@ loop-i-preserved g c =
     let code : c.in-Some.code ≡ get_or (strip (rows_on shelf) c.args.number) (c.args.start + c.loop-i.i) 0 = let e = c.in-Some.ensures ∙ found in cc in
     ap (set c.loop-i.cells c.loop-i.i) c.cell.ensures
     ∙ filled_more g.K.CellKind.given (strip (rows_on shelf) c.args.number) c.args.start c.args.cells.now c.requires.inside c.loop-i.i c.loop-i.cells c.in-Some.code (omega arith) c.loop-i.invariant code
-

@@ -1,7 +1,7 @@
-use Rattle.std.proofs.Common.{◌≡◌, ◌-◌, eqb, ◌++◌, map, length, take, drop, sym, ap, ◌∙◌, subst, arith, rules}
+use Rattle.std.proofs.Common.{◌≡◌, eqb, ◌++◌, map, length, take, drop, sym, ap, ◌∙◌, subst, rules}
 use Rattle.std.proofs.lemmas.List.{take_at, drop_at}
 use Rattle.book.specs.Laws.{OfKind, OneNumber}
-use Rattle.book.specs.Runs.{rows_after, answers_of, strips_of}
+use Rattle.book.specs.Runs.{answers_of, strips_of}
 use Rattle.book.proofs.CodeFacts.{KindLaws}
 use Rattle.book.proofs.RunFacts.{ran, one_number_of_run}
 use Rattle.shelf.specs.Contents.{rows_on}

@@ -11,4 +11,3 @@ loop-i-preserved g c =
           (omega arith) c.index-requests-i.is (omega arith) c.loop-i.invariant.1 (omega arith) c.loop-i.invariant.0 c.perform.ensures.outcome,
       c.perform.ensures.kind ∙ c.loop-i.invariant.1,
     )
-

@@ -1,10 +1,8 @@
-use Rattle.std.proofs.Common.{eqb, length, sym, refl, subst, rules}
+use Rattle.std.proofs.Common.{eqb, length, sym, subst}
 use Rattle.book.specs.Calls.{taken}
 use Rattle.book.specs.Laws.{OfKind}
 use Rattle.book.proofs.TurnFacts.{taken_told}
-use Rattle.book.proofs.CallFacts.{taken_lawful, written_back}
-use Rattle.recompression.specs.Contents.{rows_in}
-use Rattle.rows.specs.Lawful.{Lawful}
+use Rattle.book.proofs.CallFacts.{written_back}
 use Rattle.shelf.specs.Contents.{rows_on}
 use Rattle.shelf.proofs.Settlings.{back_from}
 use Rattle.shelf.proofs.shelf.Shelf.take.Goals as goal
@@ -15,7 +13,7 @@ returns-clause-kept g c =
     let laws = g.met.K.CellKind in
     let shelf = c.args.self.now in
     λ of_kind. subst (OfKind K.has) (sym c.take_on.ensures.outcome.1)
-        (taken_told K.coded K.has K.given K.same (record { alike = laws.alike; known = laws.known; back = laws.back }) (rows_on shelf) shelf.lawful of_kind (eqb shelf.kind K.tag) c.args.cells.now (length c.args.work.now)).of_kind
+    (taken_told K.coded K.has K.given K.same (record { alike = laws.alike; known = laws.known; back = laws.back }) (rows_on shelf) shelf.lawful of_kind (eqb shelf.kind K.tag) c.args.cells.now (length c.args.work.now)).of_kind
 
 pub returns-clause-back : goal.returns-clause-back
 returns-clause-back g c =

@@ -1,12 +1,10 @@
-use Rattle.std.proofs.Common.{◌≡◌, false, eqb, length, sym, refl, ◌∙◌, subst}
+use Rattle.std.proofs.Common.{◌≡◌, false, eqb, length, sym, refl, subst}
 use Rattle.std.proofs.lemmas.Result.{err_from_is_err_and}
 use Rattle.book.proofs.CallFacts.{taken_other_kind, taken_lawful}
 use Rattle.recompression.specs.Contents.{rows_in}
 use Rattle.rows.specs.Lawful.{Lawful}
 use Rattle.shelf.specs.Contents.{rows_on}
 use Rattle.shelf.specs.declared.refusal.Refusal.TheVariants.{OtherKind}
-use Rattle.shelf.specs.Refusals.{ComesTo}
-use Rattle.book.specs.Calls.{taken}
 use Rattle.shelf.proofs.Settlings.{comes_refused}
 use Rattle.shelf.proofs.Taking.{comes_unfit, comes_fit}
 use Rattle.shelf.proofs.shelf.Shelf.take_on.Goals as goal
