@@ -87,7 +87,7 @@ impl Desk {
     fn cut(&mut self, number: u16, part: Fragment, work: &mut [u16; WORK_PLACES]) -> Line
         ensures { Does (standing_of self.old) (Command.Cut number part) (told_in result ∷ []) (standing_of self.new) }
     {
-        Line::Cut(self.shelf.cut(number, part.start, part.length, work))
+        Line::Cut(self.shelf.cut(number, part, work))
     }
 
     // Asks for the places of a pattern in a field of a number's strip. An unknown number stands for the empty strip.

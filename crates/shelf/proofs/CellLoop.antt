@@ -1,7 +1,7 @@
 -- Cells written one after the other from the codes of a strip. Assumes nothing.
 use Rattle.std.proofs.Common.{◌≡◌, ℕ, ◌+◌, ◌<◌, ◌≤◌, ltb, List, [], ◌∷◌, ◌++◌, map, length, get_or, take, drop, set, Some, None, sym, ap, ◌∙◌, arith, length-drop, length-take, get_or-drop}
 use lib.ListN.{length-map}
-use Rattle.std.proofs.lemmas.List.{append_assoc, append-nil, take_more, drop_more, drop_all, set_at, map-append}
+use Rattle.std.proofs.lemmas.List.{append_assoc, take_more, drop_more, set_at, map-append}
 use Rattle.std.proofs.lemmas.Bool.{cond-true, lt-ltb}
 use Rattle.rows.specs.declared.Row.{Row}
 use Rattle.rows.specs.Filing.{row_of}
@@ -30,8 +30,3 @@ module _ {C : Type 0} (given : ℕ → C) (codes : List ℕ) (start : ℕ) (old 
       ∙ sym (append_assoc done (given code ∷ []) (drop (i + 1) old))
       ∙ ap (λ cs. cs ++ drop (i + 1) old)
       (ap (λ c. done ++ (given c ∷ [])) next ∙ sym (map-append given (take i part) (get_or part i 0 ∷ [])) ∙ ap (map given) (sym (take_more part i 0 room)))
-
-  pub filled_all : (i : ℕ) (cells : List C) → length old ≤ i → i ≤ length old → cells ≡ map given (take i (drop start codes)) ++ drop i old → cells ≡ map given (take (length old) (drop start codes))
-  filled_all i cells past within so_far =
-      let same : i ≡ length old = omega arith in
-      so_far ∙ ap (λ cs. map given (take i (drop start codes)) ++ cs) (drop_all i old past) ∙ append-nil (map given (take i (drop start codes))) ∙ ap (λ k. map given (take k (drop start codes))) same

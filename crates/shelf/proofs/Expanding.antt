@@ -1,6 +1,6 @@
 -- Leaf numbers written into a work area, and the strips that they are the leaves of. Assumes nothing.
-use Rattle.std.proofs.Common.{◌≡◌, ℕ, ◌+◌, ◌-◌, ◌≤◌, Bool, true, false, List, ◌++◌, length, take, drop, sym, ap, ◌∙◌, arith, length-drop}
-use Rattle.std.proofs.lemmas.List.{append-nil, take_at, take_all, drop_all}
+use Rattle.std.proofs.Common.{◌≡◌, ℕ, ◌+◌, ◌≤◌, Bool, true, false, List, ◌++◌, length, take, drop, sym, ap, ◌∙◌, arith}
+use Rattle.std.proofs.lemmas.List.{take_all}
 use Rattle.book.specs.Calls.{part_of}
 use Rattle.rows.specs.declared.Row.{Row}
 use Rattle.rows.specs.Filing.{row_of}
@@ -17,13 +17,6 @@ use Rattle.shelf.proofs.Settlings.{settle_from_leaves}
 pub expanded_all : (rows : List Row) (n start : ℕ) (old : List ℕ) (r : Bool) (new : List ℕ) → Expanded rows n start old r new → start + length old ≤ (row_of rows n).length → new ≡ written_out rows n start (length old)
 expanded_all rows n start old true new h fits = h.1
 expanded_all rows n start old false new h fits = absurd (omega (arith, h.0))
-
--- a list written in two parts
-pub both_written : (front rest back : List ℕ) (m : ℕ) → length front ≡ m → take m (front ++ rest) ++ (back ++ drop (length (front ++ rest) - m) (drop m (front ++ rest))) ≡ front ++ back
-both_written front rest back m long =
-    ap (λ xs. xs ++ (back ++ drop (length (front ++ rest) - m) (drop m (front ++ rest)))) (take_at front rest m long)
-    ∙ ap (λ xs. front ++ (back ++ xs)) (drop_all (length (front ++ rest) - m) (drop m (front ++ rest)) (simp length-drop (omega arith)))
-    ∙ ap (λ xs. front ++ xs) (append-nil back)
 
 -- the rounds on leaf numbers are those on the strip that they are the leaves of
 pub settles_leaves : (rows : List Row) (codes numbers : List ℕ) → LeavesOf rows codes numbers → settle rows codes ≡ all_rounds rows numbers

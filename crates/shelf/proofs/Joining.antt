@@ -1,7 +1,8 @@
 -- Joins and cuts, check by check, from what the table keeps. Assumes nothing.
-use Rattle.std.proofs.Common.{◌≡◌, ℕ, ◌+◌, ◌<◌, ◌≤◌, ◌⊎◌, List, ◌++◌, length, Err, Result, ap, ◌∙◌, arith, length-append, length-drop, length-take}
+use Rattle.std.proofs.Common.{◌≡◌, ℕ, ◌+◌, ◌<◌, ◌≤◌, ◌⊎◌, List, ◌++◌, length, Err, Result, sym, refl, ap, ◌∙◌, subst, arith, length-append, length-drop, length-take}
 use Rattle.book.specs.Calls.{settling, filing, joined_up, part_of, cut_out}
-use Rattle.book.proofs.CallFacts.{joined_unknown, joined_long, joined_filed, cut_unknown, cut_leaves, cut_filed}
+use Rattle.book.specs.Laws.{OfKind}
+use Rattle.book.proofs.CallFacts.{joined_unknown, joined_long, joined_filed, joined_of_kind, joined_stays, cut_unknown, cut_leaves, cut_filed, cut_of_kind, cut_stays}
 use Rattle.rows.specs.declared.Row.{Row}
 use Rattle.rows.specs.Filing.{row_of}
 use Rattle.rows.specs.Lawful.{Lawful}
@@ -10,14 +11,25 @@ use Rattle.recompression.specs.Expansions.{written_out}
 use Rattle.recompression.specs.Settling.{all_rounds}
 use Rattle.shelf.specs.declared.refusal.Refusal.{Refusal}
 use Rattle.shelf.specs.declared.refusal.Refusal.TheVariants.{TooLong, WorkAreaTooShort, UnknownNumber, FragmentLeavesStrip}
-use Rattle.shelf.specs.Refusals.{ComesTo}
+use Rattle.shelf.specs.Refusals.{ComesTo, Writes}
 use Rattle.shelf.proofs.Expanding.{joined_rounds, cut_rounds}
 use Rattle.shelf.proofs.RowFacts.{kept_length}
-use Rattle.shelf.proofs.Settlings.{told_short, filing_enough, comes_by, comes_refused}
+use Rattle.shelf.proofs.Settlings.{told_short, filing_enough, comes_by, comes_refused, stays_from}
 
 module _ (rows : List Row) (law : Lawful rows) (left right places : ℕ) where
-  pub join_unknown : (after : List Row) → (length rows < left) ⊎ (length rows < right) → after ≡ rows → ComesTo (Err UnknownNumber) after (joined_up rows left right places)
-  join_unknown after past same = comes_refused UnknownNumber rows after (joined_up rows left right places) (joined_unknown rows left right places past) same
+  abbrev pub Joined : Result ℕ Refusal → List Row → Type 0
+  Joined r after = Writes (strip rows left ++ strip rows right) rows (joined_up rows left right places) r after
+
+  -- what a join leaves of the rows' kinds, and what its number writes, from what it comes to
+  joined : (r : Result ℕ Refusal) (after : List Row) → ComesTo r after (joined_up rows left right places) → Joined r after
+  joined r after comes = record {
+    outcome = comes;
+    kept = λ has of_kind. subst (OfKind has) (sym comes.1) (joined_of_kind has rows of_kind left right places);
+    back = stays_from (strip rows left ++ strip rows right) r after (joined_up rows left right places) comes (joined_stays rows left right places law);
+  }
+
+  pub join_unknown : (length rows < left) ⊎ (length rows < right) → Joined (Err UnknownNumber) rows
+  join_unknown past = joined (Err UnknownNumber) rows (comes_refused UnknownNumber rows rows (joined_up rows left right places) (joined_unknown rows left right places past) refl)
 
   module _ (left_known : left ≤ length rows) (right_known : right ≤ length rows) (size : ℕ) (sum : size ≡ (row_of rows left).length + (row_of rows right).length) where
     codes : List ℕ
@@ -30,39 +42,50 @@ module _ (rows : List Row) (law : Lawful rows) (left right places : ℕ) where
     lengths : length (strip rows left) + length (strip rows right) ≡ size
     lengths = let l = kept_length rows law left left_known in let r = kept_length rows law right right_known in omega arith
 
-    pub join_too_long : (after : List Row) → 65535 < size → after ≡ rows → ComesTo (Err TooLong) after (joined_up rows left right places)
-    join_too_long after long same =
+    pub join_too_long : 65535 < size → Joined (Err TooLong) rows
+    join_too_long long =
         let sizes = lengths in
-        comes_refused TooLong rows after (joined_up rows left right places) (joined_long rows left right places left_known right_known (omega arith)) same
+        joined (Err TooLong) rows (comes_refused TooLong rows rows (joined_up rows left right places) (joined_long rows left right places left_known right_known (omega arith)) refl)
 
     module _ (short : size ≤ 65535) where
       filed : joined_up rows left right places ≡ filing rows codes places
       unfolding codes
       filed = let sizes = lengths in joined_filed rows left right places left_known right_known (omega arith)
 
-      pub join_small_work : (after : List Row) → places < size → after ≡ rows → ComesTo (Err WorkAreaTooShort) after (joined_up rows left right places)
-      join_small_work after few same =
+      pub join_small_work : places < size → Joined (Err WorkAreaTooShort) rows
+      join_small_work few =
           let many = length_codes in
-          comes_by (Err WorkAreaTooShort) after (filing rows codes places) (joined_up rows left right places) filed (told_short rows codes places (omega arith) after same)
+          joined (Err WorkAreaTooShort) rows (comes_by (Err WorkAreaTooShort) rows (filing rows codes places) (joined_up rows left right places) filed (told_short rows codes places (omega arith) rows refl))
 
       pub join_settled : (r : Result ℕ Refusal) (after : List Row) (numbers : List ℕ) → size ≤ places
           → numbers ≡ written_out rows left 0 (row_of rows left).length ++ written_out rows right 0 (row_of rows right).length
-          → ComesTo r after (settling rows (all_rounds rows numbers)) → ComesTo r after (joined_up rows left right places)
+          → ComesTo r after (settling rows (all_rounds rows numbers)) → Joined r after
       unfolding codes
       join_settled r after numbers enough is comes =
           let many = length_codes in
-          comes_by r after (settling rows (all_rounds rows numbers)) (joined_up rows left right places)
-          (filed ∙ filing_enough rows codes places (omega arith) ∙ ap (settling rows) (joined_rounds rows law left right numbers left_known right_known is)) comes
+          joined r after (comes_by r after (settling rows (all_rounds rows numbers)) (joined_up rows left right places)
+          (filed ∙ filing_enough rows codes places (omega arith) ∙ ap (settling rows) (joined_rounds rows law left right numbers left_known right_known is)) comes)
 
 module _ (rows : List Row) (law : Lawful rows) (n start size places : ℕ) where
-  pub unknown_cut : (after : List Row) → length rows < n → after ≡ rows → ComesTo (Err UnknownNumber) after (cut_out rows n start size places)
-  unknown_cut after past same = comes_refused UnknownNumber rows after (cut_out rows n start size places) (cut_unknown rows n start size places past) same
+  abbrev pub Cut : Result ℕ Refusal → List Row → Type 0
+  Cut r after = Writes (part_of rows n start size) rows (cut_out rows n start size places) r after
+
+  -- the same of a cut
+  cut : (r : Result ℕ Refusal) (after : List Row) → ComesTo r after (cut_out rows n start size places) → Cut r after
+  cut r after comes = record {
+    outcome = comes;
+    kept = λ has of_kind. subst (OfKind has) (sym comes.1) (cut_of_kind has rows of_kind n start size places);
+    back = stays_from (part_of rows n start size) r after (cut_out rows n start size places) comes (cut_stays rows n start size places law);
+  }
+
+  pub unknown_cut : length rows < n → Cut (Err UnknownNumber) rows
+  unknown_cut past = cut (Err UnknownNumber) rows (comes_refused UnknownNumber rows rows (cut_out rows n start size places) (cut_unknown rows n start size places past) refl)
 
   module _ (known : n ≤ length rows) where
-    pub leaving_cut : (after : List Row) → (row_of rows n).length < start + size → after ≡ rows → ComesTo (Err FragmentLeavesStrip) after (cut_out rows n start size places)
-    leaving_cut after past same =
+    pub leaving_cut : (row_of rows n).length < start + size → Cut (Err FragmentLeavesStrip) rows
+    leaving_cut past =
         let kept = kept_length rows law n known in
-        comes_refused FragmentLeavesStrip rows after (cut_out rows n start size places) (cut_leaves rows n start size places known (omega arith)) same
+        cut (Err FragmentLeavesStrip) rows (comes_refused FragmentLeavesStrip rows rows (cut_out rows n start size places) (cut_leaves rows n start size places known (omega arith)) refl)
 
     module _ (inside : start + size ≤ (row_of rows n).length) where
       fits : start + size ≤ length (strip rows n)
@@ -71,15 +94,15 @@ module _ (rows : List Row) (law : Lawful rows) (n start size places : ℕ) where
       length_part : length (part_of rows n start size) ≡ size
       length_part = let within = fits in simp (length-take, length-drop) (omega arith)
 
-      pub small_work_cut : (after : List Row) → places < size → after ≡ rows → ComesTo (Err WorkAreaTooShort) after (cut_out rows n start size places)
-      small_work_cut after few same =
+      pub small_work_cut : places < size → Cut (Err WorkAreaTooShort) rows
+      small_work_cut few =
           let many = length_part in
-          comes_by (Err WorkAreaTooShort) after (filing rows (part_of rows n start size) places) (cut_out rows n start size places) (cut_filed rows n start size places known fits)
-          (told_short rows (part_of rows n start size) places (omega arith) after same)
+          cut (Err WorkAreaTooShort) rows (comes_by (Err WorkAreaTooShort) rows (filing rows (part_of rows n start size) places) (cut_out rows n start size places) (cut_filed rows n start size places known fits)
+          (told_short rows (part_of rows n start size) places (omega arith) rows refl))
 
       pub settled_cut : (r : Result ℕ Refusal) (after : List Row) (numbers : List ℕ) → size ≤ places → numbers ≡ written_out rows n start size
-          → ComesTo r after (settling rows (all_rounds rows numbers)) → ComesTo r after (cut_out rows n start size places)
+          → ComesTo r after (settling rows (all_rounds rows numbers)) → Cut r after
       settled_cut r after numbers enough is comes =
           let many = length_part in
-          comes_by r after (settling rows (all_rounds rows numbers)) (cut_out rows n start size places)
-          (cut_filed rows n start size places known fits ∙ filing_enough rows (part_of rows n start size) places (omega arith) ∙ ap (settling rows) (cut_rounds rows law n start size numbers is)) comes
+          cut r after (comes_by r after (settling rows (all_rounds rows numbers)) (cut_out rows n start size places)
+          (cut_filed rows n start size places known fits ∙ filing_enough rows (part_of rows n start size) places (omega arith) ∙ ap (settling rows) (cut_rounds rows law n start size numbers is)) comes)

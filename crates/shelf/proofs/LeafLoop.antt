@@ -1,5 +1,5 @@
 -- Leaves filed one after the other into a work area. Assumes nothing.
-use Rattle.std.proofs.Common.{◌≡◌, ℕ, ◌+◌, ◌<◌, ◌≤◌, List, [], ◌∷◌, ◌++◌, map, length, get_or, take, drop, set, Some, None, Option, unwrap_or, sym, refl, ap, ◌∙◌, arith}
+use Rattle.std.proofs.Common.{◌≡◌, ℕ, ◌+◌, ◌<◌, ◌≤◌, List, ◌∷◌, ◌++◌, map, length, get_or, take, drop, set, Some, None, Option, unwrap_or, sym, ap, ◌∙◌, arith}
 use lib.ListN.{length-map}
 use Rattle.std.proofs.lemmas.List.{append-nil, append_assoc, drop_more, drop_all, take_more_set, take_all, take-append-le}
 use Rattle.book.specs.Calls.{printed}
@@ -8,7 +8,7 @@ use Rattle.cells.specs.Printing.{first_unprintable}
 use Rattle.rows.specs.declared.Shape.TheVariants.{Leaf}
 use Rattle.rows.specs.declared.Row.{Row}
 use Rattle.rows.specs.Filing.{file}
-use Rattle.rows.specs.Rounds.{Filed, then, with_number, file_all, leaf_block, leaves}
+use Rattle.rows.specs.Rounds.{then, with_number, file_all, leaf_block, leaves}
 use Rattle.rows.proofs.FilingFacts.{file_grows}
 use Rattle.recompression.specs.Contents.{number_in, rows_left}
 use Rattle.recompression.proofs.RoundFacts.{filed_some, filed_none, after, after_more}
@@ -18,13 +18,6 @@ pub record Going (old : List Row) (codes : List ℕ) (i : ℕ) (rows : List Row)
   pub rest : leaves old codes ≡ then (file_all 0 (map leaf_block (drop i codes)) rows) (after (take i numbers))
   pub more : List Row
   pub grows : rows ≡ old ++ more
-
-pub none_filed : (old : List Row) (codes numbers : List ℕ) → Going old codes 0 old numbers
-none_filed old codes numbers = record { rest = whole (leaves old codes); more = []; grows = sym (append-nil old) }
-  where
-    whole : (o : Option Filed) → o ≡ then o (after [])
-    whole None = refl
-    whole (Some f) = refl
 
 module _ (old : List Row) (codes : List ℕ) (i : ℕ) (rows : List Row) (numbers : List ℕ) (going : Going old codes i rows numbers) (code : ℕ) (within : i < length codes) (is : get_or codes i 0 ≡ code) where
   front : map leaf_block (drop i codes) ≡ leaf_block code ∷ map leaf_block (drop (i + 1) codes)

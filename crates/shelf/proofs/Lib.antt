@@ -1,8 +1,10 @@
 mod RowFacts
 mod LeafLoop
 mod Settlings
+mod Taking
 mod CellLoop
 mod Expanding
 mod Joining
 mod SendLoop
 mod Histories
+mod Beginning

@@ -1,6 +1,6 @@
 -- Requests performed one after the other. Assumes nothing.
-use Rattle.std.proofs.Common.{◌≡◌, ℕ, ◌+◌, ◌<◌, ◌≤◌, min, eqb, List, [], ◌∷◌, ◌++◌, map, length, get_or, take, set, Option, Result, sym, ap, ◌∙◌}
-use Rattle.std.proofs.lemmas.List.{take_more, take_more_set, take_all, map-append}
+use Rattle.std.proofs.Common.{◌≡◌, ℕ, ◌+◌, ◌<◌, min, eqb, List, [], ◌∷◌, ◌++◌, map, length, get_or, take, set, Option, Result, sym, ap, ◌∙◌}
+use Rattle.std.proofs.lemmas.List.{take_more, take_more_set, map-append}
 use Rattle.book.specs.Calls.{turn}
 use Rattle.book.specs.Runs.{rows_after, answers_of}
 use Rattle.book.proofs.RunFacts.{rows_push, answers_push}
@@ -35,12 +35,4 @@ module _ {C : Type 0} (kind tag : ℕ) (coded : C → Option ℕ) (old : List Ro
             ∙ ap (λ xs. xs ++ (told r ∷ [])) so_far.1
             ∙ ap (λ x. answers_of (eqb kind tag) coded old sents ++ (x ∷ [])) (comes.0 ∙ ap (λ u. u.answer) same_turn)
             ∙ sym (answers_push (eqb kind tag) coded old sents (sent_with area s)) ∙ ap (answers_of (eqb kind tag) coded old) (sym (one_more i s inside is)),
-      )
-
-  pub performed_all : (i : ℕ) (rows : List Row) (answers : List (Result ℕ Refusal)) → length requests ≤ i → length answers ≤ i → Performed i rows answers
-      → (rows ≡ rows_after (eqb kind tag) coded old (calls_sent area requests)) × (map told answers ≡ answers_of (eqb kind tag) coded old (calls_sent area requests))
-  performed_all i rows answers all_requests all_answers so_far =
-      let whole = take_all i requests all_requests in (
-        so_far.0 ∙ ap (λ xs. rows_after (eqb kind tag) coded old (calls_sent area xs)) whole,
-        ap (map told) (sym (take_all i answers all_answers)) ∙ so_far.1 ∙ ap (λ xs. answers_of (eqb kind tag) coded old (calls_sent area xs)) whole,
       )

@@ -4,7 +4,6 @@ use Rattle.std.proofs.Common.{◌≡◌, ℕ, ◌<◌, ◌≤◌, ltb, List, ◌
 use lib.ListN.{length-map}
 use Rattle.std.proofs.lemmas.List.{take-append-le, take_all}
 use Rattle.std.proofs.lemmas.Bool.{cond-true, cond-false, lt-ltb, le-ltb}
-use Rattle.std.specs.Result.{result_ok}
 use Rattle.std.specs.List.{AllZip}
 use Rattle.book.specs.Calls.{answered, refused, Turn, refusing, settling, filing}
 use Rattle.book.proofs.CallFacts.{Stays}
@@ -17,9 +16,14 @@ use Rattle.recompression.specs.declared.table.settle.Unsettled.TheVariants.{TooL
 use Rattle.recompression.specs.Settling as recompression
 use Rattle.recompression.specs.Settling.{all_rounds, settling_by}
 use Rattle.shelf.specs.declared.refusal.Refusal.{Refusal}
-use Rattle.shelf.specs.declared.refusal.Refusal.TheVariants.{WorkAreaTooShort, ShelfFull}
-use Rattle.shelf.specs.Leaves.{SettlesAs}
-use Rattle.shelf.specs.Refusals.{refusal_told, ComesTo, WrittenBack, StaysWritten}
+use Rattle.shelf.specs.declared.refusal.Refusal.TheVariants.{WorkAreaTooShort}
+use Rattle.shelf.specs.Leaves.{LeavesFiled, SettlesAs, SettlesOrUndoes}
+use Rattle.shelf.specs.Refusals.{refusal_for, refusal_told, ComesTo, WrittenBack, StaysWritten}
+
+-- an answer of the rounds as the shelf gives it
+abbrev pub for_shelf : Result ℕ Unsettled → Result ℕ Refusal
+for_shelf (Ok n) = Ok n
+for_shelf (Err why) = Err (refusal_for why)
 
 -- the rounds on the leaves of a strip are what the strip settles to
 pub settle_from_leaves : (old rows : List Row) (codes numbers : List ℕ) → leaves old codes ≡ Some (record { numbers = numbers; rows = rows }) → settle old codes ≡ all_rounds rows numbers
@@ -38,22 +42,22 @@ module _ (old rows : List Row) (codes numbers : List ℕ) (filed : leaves old co
       let grown = file_all_grows 0 (map leaf_block codes) old (record { numbers = numbers; rows = rows }) filed in
       ap (take (length old)) grown.grows ∙ take-append-le (length old) old grown.added (omega arith) ∙ take_all (length old) old (omega arith)
 
-  by_outcome : (o : Option Settled) → all_rounds rows numbers ≡ o → (r : Result ℕ Unsettled) (after : List Row) → r ≡ (settling_by rows o).answer → after ≡ (settling_by rows o).rows → SettlesAs old codes (result_ok r) after
+  by_outcome : (o : Option Settled) → all_rounds rows numbers ≡ o → (r : Result ℕ Unsettled) (after : List Row) → r ≡ (settling_by rows o).answer → after ≡ (settling_by rows o).rows → SettlesAs old codes (for_shelf r) after
   by_outcome None is r after answer left =
-      subst (λ x. SettlesAs old codes (result_ok x) after) (sym answer)
-      (settle_from_leaves old rows codes numbers filed ∙ is, ap (take (length old)) left ∙ kept)
+      subst (λ x. SettlesAs old codes (for_shelf x) after) (sym answer)
+      (refl, settle_from_leaves old rows codes numbers filed ∙ is, ap (take (length old)) left ∙ kept)
   by_outcome (Some s) is r after answer left =
-      subst (λ x. SettlesAs old codes (result_ok x) after) (sym answer)
+      subst (λ x. SettlesAs old codes (for_shelf x) after) (sym answer)
       (s, settle_from_leaves old rows codes numbers filed ∙ is, refl, left)
 
-  pub settled_after : (r : Result ℕ Unsettled) (after : List Row) → r ≡ (recompression.settling rows numbers).answer → after ≡ (recompression.settling rows numbers).rows → SettlesAs old codes (result_ok r) after
+  pub settled_after : (r : Result ℕ Unsettled) (after : List Row) → r ≡ (recompression.settling rows numbers).answer → after ≡ (recompression.settling rows numbers).rows → SettlesAs old codes (for_shelf r) after
   settled_after r after answer left =
       by_outcome (all_rounds rows numbers) refl r after (answer ∙ ap (λ t. t.answer) by_rounds) (left ∙ ap (λ t. t.rows) by_rounds)
 
 -- leaves that need a row 1,025
-pub leaves_full : (old after : List Row) (codes : List ℕ) → leaves old codes ≡ None → take (length old) after ≡ old → SettlesAs old codes None after
+pub leaves_full : (old after : List Row) (codes numbers : List ℕ) (e : Refusal) → LeavesFiled {A = Unit {0}} old codes (Err e) after numbers → SettlesAs old codes (Err e) after
 unfolding settle
-leaves_full old after codes none kept = (ap (λ o. then o (rounds_from (enough_rounds (length codes)) 0)) none, kept)
+leaves_full old after codes numbers e full = (full.0, ap (λ o. then o (rounds_from (enough_rounds (length codes)) 0)) full.1, full.2)
 
 -- what the book tells
 module _ (old : List Row) (codes : List ℕ) (places : ℕ) where
@@ -67,15 +71,13 @@ module _ (old : List Row) (codes : List ℕ) (places : ℕ) where
   unfolding filing
   filing_enough room = cond-false (ltb places (length codes)) (refusing old (refused 4)) (settling old (settle old codes)) (le-ltb places (length codes) room)
 
-  pub told_number : length codes ≤ places → (n : ℕ) (after : List Row) → SettlesAs old codes (Some n) after → ComesTo (Ok n) after (filing old codes places)
-  told_number room n after is =
+  pub told_settled : length codes ≤ places → (r : Result ℕ Refusal) (after : List Row) → SettlesOrUndoes old codes r after → ComesTo r after (filing old codes places)
+  told_settled room (Ok n) after is =
       let same = filing_enough room ∙ ap (settling old) is.1 in
       (ap answered is.2 ∙ ap (λ t. t.answer) (sym same), is.3 ∙ ap (λ t. t.rows) (sym same))
-
-  pub told_full : length codes ≤ places → (after rows : List Row) → SettlesAs old codes None after → rows ≡ take (length old) after → ComesTo (Err ShelfFull) rows (filing old codes places)
-  told_full room after rows is back =
-      let same = filing_enough room ∙ ap (settling old) is.0 in
-      (ap (λ t. t.answer) (sym same), back ∙ is.1 ∙ ap (λ t. t.rows) (sym same))
+  told_settled room (Err e) after is =
+      let same = filing_enough room ∙ ap (settling old) is.1 in
+      (ap refusal_told is.0 ∙ ap (λ t. t.answer) (sym same), is.2 ∙ ap (λ t. t.rows) (sym same))
 
 -- the same turn, written in another way
 pub comes_by : (r : Result ℕ Refusal) (rows : List Row) (t u : Turn) → u ≡ t → ComesTo r rows t → ComesTo r rows u

@@ -1,8 +1,11 @@
 -- Refusals by number, and the answers that results stand for. Assumes nothing.
-use Rattle.std.specs.Prelude.{◌≡◌, ℕ, Bool, List, ◌++◌, map, Ok, Err, codes as ascii, decimal, Result}
+use Rattle.std.specs.Prelude.{◌≡◌, ℕ, ◌<◌, ◌≤◌, Bool, List, ◌++◌, map, length, Some, Ok, Err, Option, codes as ascii, decimal, Result}
 use Rattle.std.specs.List.{AllZip}
 use Rattle.book.specs.Calls.{Answer, answered, refused, refused_at, Turn}
 use Rattle.book.specs.Laws.{OfKind}
+use Rattle.cells.specs.Printing.{first_unprintable}
+use Rattle.recompression.specs.declared.table.settle.Unsettled.{Unsettled}
+use Rattle.recompression.specs.declared.table.settle.Unsettled.TheVariants as unsettled
 use Rattle.rows.specs.declared.Row.{Row}
 use Rattle.rows.specs.Strips.{strip}
 use Rattle.shelf.specs.declared.refusal.Refusal.{Refusal}
@@ -27,6 +30,18 @@ refusal_sentence WorkAreaTooShort = ascii "the work area is shorter than the str
 refusal_sentence ShelfFull = ascii "the shelf has no row left"
 refusal_sentence UnknownNumber = ascii "the number is unknown"
 refusal_sentence FragmentLeavesStrip = ascii "a fragment leaves the strip"
+
+-- the refusal of a strip whose string of numbers does not settle
+abbrev pub refusal_for : Unsettled → Refusal
+refusal_for unsettled.TooLong = TooLong
+refusal_for unsettled.Full = ShelfFull
+
+-- why cells are refused before any is filed: there are over 65,535, or one is not printable, with the place
+-- of the first
+abbrev pub Unfit : {C : Type 0} → (C → Option ℕ) → List C → Refusal → Type 0
+Unfit coded cells TooLong = 65535 < length cells
+Unfit coded cells (Unprintable place) = (length cells ≤ 65535) × (first_unprintable coded cells ≡ Some place)
+Unfit coded cells _ = ⊥
 
 -- a refusal as the book tells it: its number, and of an unprintable cell also its place
 abbrev pub refusal_told : Refusal → Answer
@@ -60,3 +75,10 @@ StaysWritten codes rows (Err e) = Unit {0}
 -- rows of a kind, whichever it is, are still of that kind
 abbrev pub KindKept : List Row → List Row → Type 0
 KindKept before after = (has : ℕ → Bool) → OfKind has before → OfKind has after
+
+-- a call on rows that writes these codes: what it answers and leaves is the book's turn, the rows stay of their
+-- kind, and the number answered writes the codes
+pub record Writes (codes : List ℕ) (before : List Row) (t : Turn) (r : Result ℕ Refusal) (after : List Row) : Type 0 where
+  pub outcome : ComesTo r after t
+  pub kept : KindKept before after
+  pub back : StaysWritten codes after r

@@ -1,18 +1,20 @@
 -- Requests as calls of the book. Assumes nothing.
-use Rattle.std.specs.Prelude.{◌≡◌, ℕ, min, Bool, true, List, [], ◌++◌, map, Option}
+use Rattle.std.specs.Prelude.{◌≡◌, ℕ, min, Bool, true, List, [], ◌++◌, map, take, drop, Option, Result}
 use Rattle.book.specs.Calls.{Call, Answer, taking, joining, cutting}
-use Rattle.book.specs.Laws.{OneNumber}
+use Rattle.book.specs.Laws.{OfKind, OneNumber}
 use Rattle.book.specs.Runs as book
 use Rattle.rows.specs.declared.Row.{Row}
 use Rattle.shelf.specs.declared.request.Request.{Request}
 use Rattle.shelf.specs.declared.request.Request.TheVariants.{Take, Join, Cut}
 use Rattle.shelf.specs.declared.request.Sent.{Sent}
+use Rattle.shelf.specs.declared.refusal.Refusal.{Refusal}
+use Rattle.shelf.specs.Refusals.{told}
 
 -- the call that a request is
 abbrev pub call_of : {C : Type 0} → Request C → Call C
 call_of (Take cells) = taking cells.now
 call_of (Join left right) = joining left right
-call_of (Cut number start size) = cutting number start size
+call_of (Cut number part) = cutting number part.start part.length
 
 -- with the places that it may use, at most those there are
 abbrev pub sent_with : {C : Type 0} → ℕ → Sent C → book.Sent C
@@ -31,3 +33,22 @@ pub record GoesOn {C : Type 0} (coded : C → Option ℕ) (given : ℕ → C) (s
 abbrev pub AnyHistory : {C : Type 0} → (C → Option ℕ) → (ℕ → C) → (C → C → Type 0) → Bool → List Row → List (book.Sent C) → List Answer → List Row → Type 0
 AnyHistory {C} coded given same same_kind before calls answers after =
     (past : List (book.Sent C)) → same_kind ≡ true → before ≡ book.rows_after true coded [] past → GoesOn coded given same past calls answers after
+
+-- calls sent to a shelf, with `count` places for their answers: its rows and the answers are those of the book, and
+-- the other places stay as they were. Rows of the kind stay of it, and then the law of one number holds of the
+-- answers; and so it does over any history
+pub record SentTo {C : Type 0} (coded : C → Option ℕ) (has : ℕ → Bool) (given : ℕ → C) (same : C → C → Type 0) (same_kind : Bool) (before : List Row) (calls : List (book.Sent C)) (count : ℕ) (old new : List (Result ℕ Refusal)) (after : List Row) : Type 0 where
+  pub rows : after ≡ book.rows_after same_kind coded before calls
+  pub answers : map told (take count new) ≡ book.answers_of same_kind coded before calls
+  pub others : drop count new ≡ drop count old
+  pub kept : OfKind has before → OfKind has after
+  pub law : OfKind has before → OneNumber same (map told (take count new)) (book.strips_of same_kind coded given before calls)
+  pub history : AnyHistory coded given same same_kind before calls (map told (take count new)) after
+
+-- calls sent to a new shelf of the kind: the same by a book that begins with no rows, with nothing assumed
+pub record Begun {C : Type 0} (coded : C → Option ℕ) (has : ℕ → Bool) (given : ℕ → C) (same : C → C → Type 0) (calls : List (book.Sent C)) (count : ℕ) (old new : List (Result ℕ Refusal)) (after : List Row) : Type 0 where
+  pub rows : after ≡ book.rows_after true coded [] calls
+  pub answers : map told (take count new) ≡ book.answers_of true coded [] calls
+  pub others : drop count new ≡ drop count old
+  pub kept : OfKind has after
+  pub law : OneNumber same (map told (take count new)) (book.strips_of true coded given [] calls)

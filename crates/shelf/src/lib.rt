@@ -2,9 +2,8 @@
 // strip, over any history of takes, joins, cuts and refusals.
 #![tactic(auto)]
 
-mod leaves;
+mod printable;
 pub mod refusal;
 pub mod request;
-mod settling;
 pub mod shelf;
 mod work;

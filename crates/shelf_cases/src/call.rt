@@ -2,6 +2,7 @@
 use crate::spelling::{Spelled, number, read_cells, word};
 use anyhow::anyhow;
 use cells::CellKind;
+use periodicity::Fragment;
 use shelf::refusal::Refusal;
 use shelf::request::{Answer, Request, Sent};
 use shelf::shelf::Shelf;
@@ -32,11 +33,10 @@ fn read_join<'a, K>(text: &str) -> anyhow::Result<Request<'a, K>> {
 fn read_cut<'a, K>(text: &str) -> anyhow::Result<Request<'a, K>> {
     let (row, rest) = number(text)?;
     let (start, rest) = number(rest)?;
-    let (size, _) = number(rest)?;
+    let (length, _) = number(rest)?;
     Ok(Request::Cut {
         number: row,
-        start,
-        size,
+        part: Fragment { start, length },
     })
 }
 
@@ -59,11 +59,7 @@ fn perform<K: CellKind>(shelf: &mut Shelf, request: Request<'_, K>, work: &mut [
     match request {
         Request::Take { cells } => shelf.take(cells, work),
         Request::Join { left, right } => shelf.join(left, right, work),
-        Request::Cut {
-            number,
-            start,
-            size,
-        } => shelf.cut(number, start, size, work),
+        Request::Cut { number, part } => shelf.cut(number, part, work),
     }
 }
 

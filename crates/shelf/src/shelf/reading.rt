@@ -1,7 +1,6 @@
 // A new shelf, and what can be read of one.
 ghost use Rattle.std.specs.Prelude.{◌≡◌, [], length};
-ghost use Rattle.recompression.specs.Codes.{code_in};
-ghost use Rattle.recompression.specs.Contents.{row_at, rows_in};
+ghost use Rattle.recompression.specs.Contents.{row_at};
 ghost use Rattle.shelf.specs.Contents.{rows_on, length_at, code_at};
 
 use crate::shelf::Shelf;
@@ -43,6 +42,7 @@ impl Shelf {
     }
 
     // The length of a known number's strip.
+    #[tactic(auto, using(crate::proofs::RowFacts::length_known))]
     pub fn length_of(&self, number: u16) -> Option<usize>
         ensures { result ≡ length_at (rows_on self.now) number }
     {
@@ -54,16 +54,10 @@ impl Shelf {
 
     // The code at a place of a number's strip; absent from its length on, and so for every place of a number
     // that is not known.
+    #[tactic(auto, using(crate::proofs::RowFacts::code_told))]
     pub fn code_at(&self, number: u16, place: usize) -> Option<u32>
         ensures { result ≡ code_at (rows_on self.now) number place }
     {
-        kept_code(&self.table, number, place)
+        self.table.code_at(number, place)
     }
-}
-
-// The code at a place that a number's row keeps.
-fn kept_code(table: &Table, number: u16, place: usize) -> Option<u32>
-    ensures { result ≡ code_in (rows_in table.now) number place }
-{
-    table.code_at(number, place)
 }

@@ -1,11 +1,10 @@
 // Sending: a list of takes, joins and cuts, each working on what the earlier ones left.
-ghost use Rattle.std.specs.Prelude.{◌≡◌, min, true, [], map, length, take, drop, replicate, ◌==◌};
+ghost use Rattle.std.specs.Prelude.{◌≡◌, min, map, length, take, replicate, ◌==◌};
 ghost use Rattle.book.specs.Calls.{turn};
-ghost use Rattle.book.specs.Laws.{OfKind, OneNumber};
-ghost use Rattle.book.specs.Runs.{rows_after, answers_of, strips_of};
+ghost use Rattle.book.specs.Runs.{rows_after, answers_of};
 ghost use Rattle.shelf.specs.Contents.{rows_on};
 ghost use Rattle.shelf.specs.Refusals.{told, ComesTo};
-ghost use Rattle.shelf.specs.Sending.{AnyHistory, call_of, calls_sent};
+ghost use Rattle.shelf.specs.Sending.{Begun, SentTo, call_of, calls_sent};
 
 use crate::request::{Answer, Request, Sent};
 use crate::shelf::Shelf;
@@ -19,15 +18,11 @@ impl Shelf {
         ensures kind { self.new.kind ≡ self.old.kind }
     {
         let places = sent.places.min(work.len());
-        let area = &mut work[0..places];
+        let area = &mut work[..places];
         match sent.request {
             Request::Take { cells } => self.take(cells, area),
             Request::Join { left, right } => self.join(left, right, area),
-            Request::Cut {
-                number,
-                start,
-                size,
-            } => self.cut(number, start, size, area),
+            Request::Cut { number, part } => self.cut(number, part, area),
         }
     }
 
@@ -43,8 +38,9 @@ impl Shelf {
         ensures answers { map told answers.new ≡ answers_of (self.old.kind == K.tag) K.coded (rows_on self.old) (calls_sent (length work.old) requests.now) }
         ensures kind { self.new.kind ≡ self.old.kind }
     {
-        for i in 0..requests.len() {
-            answers[i] = self.perform(&requests[i], work);
+        // No `zip`: a proof knows nothing of what was written through an adapter of `iter_mut`.
+        for (i, request) in requests.iter().enumerate() {
+            answers[i] = self.perform(request, work);
         }
     }
 
@@ -59,58 +55,29 @@ impl Shelf {
         work: &mut [u16],
     ) -> usize
         ensures performed { result ≡ min (length requests.now) (length answers.old) }
-        ensures rows { rows_on self.new ≡ rows_after (self.old.kind == K.tag) K.coded (rows_on self.old) (calls_sent (length work.old) (take result requests.now)) }
-        ensures answers { map told (take result answers.new) ≡ answers_of (self.old.kind == K.tag) K.coded (rows_on self.old) (calls_sent (length work.old) (take result requests.now)) }
-        ensures others { drop result answers.new ≡ drop result answers.old }
+        ensures sent { SentTo K.coded K.has K.given K.same (self.old.kind == K.tag) (rows_on self.old) (calls_sent (length work.old) (take result requests.now)) result answers.old answers.new (rows_on self.new) }
         ensures kind { self.new.kind ≡ self.old.kind }
         ensures cleared { work.new ≡ replicate (length work.old) 0 }
-        ensures kept { OfKind K.has (rows_on self.old) → OfKind K.has (rows_on self.new) }
-        ensures law { OfKind K.has (rows_on self.old) → OneNumber K.same (map told (take result answers.new)) (strips_of (self.old.kind == K.tag) K.coded K.given (rows_on self.old) (calls_sent (length work.old) (take result requests.now))) }
-        ensures history { AnyHistory K.coded K.given K.same (self.old.kind == K.tag) (rows_on self.old) (calls_sent (length work.old) (take result requests.now)) (map told (take result answers.new)) (rows_on self.new) }
     {
         let work = WorkArea(work);
         let count = requests.len().min(answers.len());
-        self.send_all(&requests[0..count], &mut answers[0..count], work.0);
+        self.send_all(&requests[..count], &mut answers[..count], work.0);
         count
     }
 
-    // Sending to a shelf of the kind with no rows: here the book begins with none, and so knows nothing but the
-    // requests.
-    fn send_first<K: CellKind>(
-        &mut self,
-        requests: &[Sent<K>],
-        answers: &mut [Answer],
-        work: &mut [u16],
-    )
-        requires empty { rows_on self.old ≡ [] }
-        requires alike { self.old.kind ≡ K.tag }
-        ensures rows { rows_on self.new ≡ rows_after true K.coded [] (calls_sent (length work.old) (take (min (length requests.now) (length answers.old)) requests.now)) }
-        ensures answers { map told (take (min (length requests.now) (length answers.old)) answers.new) ≡ answers_of true K.coded [] (calls_sent (length work.old) (take (min (length requests.now) (length answers.old)) requests.now)) }
-        ensures others { drop (min (length requests.now) (length answers.old)) answers.new ≡ drop (min (length requests.now) (length answers.old)) answers.old }
-        ensures kind { self.new.kind ≡ K.tag }
-        ensures cleared { work.new ≡ replicate (length work.old) 0 }
-        ensures kept { OfKind K.has (rows_on self.new) }
-        ensures law { OneNumber K.same (map told (take (min (length requests.now) (length answers.old)) answers.new)) (strips_of true K.coded K.given [] (calls_sent (length work.old) (take (min (length requests.now) (length answers.old)) requests.now))) }
-    {
-        self.send(requests, answers, work);
-    }
-
     // A new shelf of a kind and the requests sent to it, told by a book that is fed the requests alone.
+    #[tactic(auto, using(crate::proofs::Beginning::begun))]
     pub fn begin<K: CellKind>(
         requests: &[Sent<K>],
         answers: &mut [Answer],
         work: &mut [u16],
     ) -> Shelf
-        ensures rows { rows_on result ≡ rows_after true K.coded [] (calls_sent (length work.old) (take (min (length requests.now) (length answers.old)) requests.now)) }
-        ensures answers { map told (take (min (length requests.now) (length answers.old)) answers.new) ≡ answers_of true K.coded [] (calls_sent (length work.old) (take (min (length requests.now) (length answers.old)) requests.now)) }
-        ensures others { drop (min (length requests.now) (length answers.old)) answers.new ≡ drop (min (length requests.now) (length answers.old)) answers.old }
+        ensures begun { let count = min (length requests.now) (length answers.old) in Begun K.coded K.has K.given K.same (calls_sent (length work.old) (take count requests.now)) count answers.old answers.new (rows_on result) }
         ensures kind { result.kind ≡ K.tag }
         ensures cleared { work.new ≡ replicate (length work.old) 0 }
-        ensures kept { OfKind K.has (rows_on result) }
-        ensures law { OneNumber K.same (map told (take (min (length requests.now) (length answers.old)) answers.new)) (strips_of true K.coded K.given [] (calls_sent (length work.old) (take (min (length requests.now) (length answers.old)) requests.now))) }
     {
         let mut shelf = Shelf::new::<K>();
-        shelf.send_first(requests, answers, work);
+        shelf.send(requests, answers, work);
         shelf
     }
 }

@@ -16,11 +16,11 @@ impl Shelf {
         requires inside { start + length cells.old ≤ length (strip (rows_on self.now) number) }
         ensures { cells.new ≡ map K.given (part_of (rows_on self.now) number start (length cells.old)) }
     {
-        for i in 0..cells.len() {
+        for (i, cell) in cells.iter_mut().enumerate() {
             let Some(code) = self.table.code_at(number, start + i) else {
                 return unreachable();
             };
-            cells[i] = K::cell(code);
+            *cell = K::cell(code);
         }
     }
 
@@ -35,7 +35,7 @@ impl Shelf {
         ensures outcome { refusal_of result ≡ writing_check (self.now.kind == K.tag) (rows_on self.now) number start (length cells.old) }
         ensures written { cells.new ≡ cells_after K.given (writing_check (self.now.kind == K.tag) (rows_on self.now) number start (length cells.old)) (rows_on self.now) number start cells.old }
     {
-        if self.kind != K::kind_number() {
+        if !self.is_of_kind::<K>() {
             return Err(Refusal::OtherKind);
         }
         let Some(length) = self.length_of(number) else {

@@ -2,7 +2,7 @@ use Rattle.std.proofs.Common.{◌≡◌, ℕ, ◌+◌, get_or, set, ap, ◌∙�
 use Rattle.book.proofs.RunFacts.{strip_short}
 use Rattle.rows.specs.Strips.{strip}
 use Rattle.shelf.specs.Contents.{rows_on}
-use Rattle.shelf.proofs.CellLoop.{code_inside, filled_more, filled_all}
+use Rattle.shelf.proofs.CellLoop.{code_inside, filled_more}
 use Rattle.shelf.proofs.shelf.Shelf.fill.Goals as goal
 
 pub overflow_add-start : goal.overflow_add-start
@@ -24,8 +24,3 @@ loop-i-preserved g c =
     let code : c.in-Some.code ≡ get_or (strip (rows_on shelf) c.args.number) (c.args.start + c.loop-i.i) 0 = let e = c.in-Some.ensures ∙ found in cc in
     ap (set c.loop-i.cells c.loop-i.i) c.cell.ensures
     ∙ filled_more g.K.CellKind.given (strip (rows_on shelf) c.args.number) c.args.start c.args.cells.now c.requires.inside c.loop-i.i c.loop-i.cells c.in-Some.code (omega arith) c.loop-i.invariant code
-
-pub returns : goal.returns
-returns g c =
-    let shelf = c.args.self.now in
-    filled_all g.K.CellKind.given (strip (rows_on shelf) c.args.number) c.args.start c.args.cells.now c.requires.inside c.loop-i.i c.loop-i.cells (omega arith) (omega arith) c.loop-i.invariant

@@ -1,6 +1,6 @@
 use Rattle.std.proofs.Common.{length, ◌∙◌, arith}
 use Rattle.shelf.specs.Contents.{rows_on}
-use Rattle.shelf.proofs.SendLoop.{performed_more, performed_all}
+use Rattle.shelf.proofs.SendLoop.{performed_more}
 use Rattle.shelf.proofs.shelf.Shelf.send_all.Goals as goal
 
 pub loop-i-preserved : goal.loop-i-preserved
@@ -11,10 +11,3 @@ loop-i-preserved g c =
           (omega arith) c.index-requests-i.is (omega arith) c.loop-i.invariant.1 (omega arith) c.loop-i.invariant.0 c.perform.ensures.outcome,
       c.perform.ensures.kind ∙ c.loop-i.invariant.1,
     )
-
-pub returns : goal.returns
-returns g c =
-    let shelf = c.args.self.now in
-    let all = performed_all shelf.kind g.K.CellKind.tag g.K.CellKind.coded (rows_on shelf) (length c.args.work.now) c.args.requests.now c.loop-i.i
-    (rows_on c.loop-i.self) c.loop-i.answers (omega arith) (omega arith) c.loop-i.invariant.0 in
-    record { rows = all.0; answers = all.1; kind = c.loop-i.invariant.1 }

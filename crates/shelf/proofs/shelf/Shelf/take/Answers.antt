@@ -1,34 +1,26 @@
-use Rattle.std.proofs.Common.{eqb, length, sym, refl, subst, rules}
+use Rattle.std.proofs.Common.{eqb, length, sym, subst}
 use Rattle.book.specs.Calls.{taken}
 use Rattle.book.specs.Laws.{OfKind}
 use Rattle.book.proofs.TurnFacts.{taken_told}
-use Rattle.book.proofs.CallFacts.{taken_lawful, written_back}
-use Rattle.recompression.specs.Contents.{rows_in}
-use Rattle.rows.specs.Lawful.{Lawful}
+use Rattle.book.proofs.CallFacts.{written_back}
 use Rattle.shelf.specs.Contents.{rows_on}
 use Rattle.shelf.proofs.Settlings.{back_from}
 use Rattle.shelf.proofs.shelf.Shelf.take.Goals as goal
 
-pub invariant_of-self : goal.invariant_of-self
-invariant_of-self g c =
+pub returns-clause-kept : goal.returns-clause-kept
+returns-clause-kept g c =
     let K = g.K.CellKind in
+    let laws = g.met.K.CellKind in
     let shelf = c.args.self.now in
-    record { lawful = subst Lawful (sym c.take_on.ensures.1) (taken_lawful K.coded (rows_on shelf) c.args.cells.now (length c.args.work.now) shelf.lawful (eqb shelf.kind K.tag)) }
+    λ of_kind. subst (OfKind K.has) (sym c.take_on.ensures.outcome.1)
+    (taken_told K.coded K.has K.given K.same (record { alike = laws.alike; known = laws.known; back = laws.back }) (rows_on shelf) shelf.lawful of_kind (eqb shelf.kind K.tag) c.args.cells.now (length c.args.work.now)).of_kind
 
-pub returns : goal.returns
-returns g c =
+pub returns-clause-back : goal.returns-clause-back
+returns-clause-back g c =
     let K = g.K.CellKind in
     let laws = g.met.K.CellKind in
     let shelf = c.args.self.now in
     let places = length c.args.work.now in
-    let t = taken (eqb shelf.kind K.tag) K.coded (rows_on shelf) c.args.cells.now places in
-    record {
-      outcome = c.take_on.ensures;
-      kind = refl;
-      cleared = search rules;
-      kept = λ of_kind. subst (OfKind K.has) (sym c.take_on.ensures.1)
-          (taken_told K.coded K.has K.given K.same (record { alike = laws.alike; known = laws.known; back = laws.back }) (rows_on shelf) shelf.lawful of_kind (eqb shelf.kind K.tag) c.args.cells.now places).of_kind;
-      back = back_from K.same K.given c.args.cells.now c.take_on.result (rows_in c.take_on.new.table) t c.take_on.ensures
-          (written_back K.coded K.has K.given K.same (record { alike = laws.alike; known = laws.known; back = laws.back })
-          (eqb shelf.kind K.tag) (rows_on shelf) c.args.cells.now places shelf.lawful);
-    }
+    back_from K.same K.given c.args.cells.now c.take_on.result (rows_on c.take_on.new.self) (taken (eqb shelf.kind K.tag) K.coded (rows_on shelf) c.args.cells.now places) c.take_on.ensures.outcome
+    (written_back K.coded K.has K.given K.same (record { alike = laws.alike; known = laws.known; back = laws.back })
+    (eqb shelf.kind K.tag) (rows_on shelf) c.args.cells.now places shelf.lawful)
