@@ -7,6 +7,7 @@ use shelf::refusal::Refusal;
 use shelf::request::{Answer, Request, Sent};
 use shelf::shelf::Shelf;
 use std::alloc::{AllocError, Global};
+use std::fmt::Write;
 
 // What a work area holds before a call.
 const LEFTOVER: u16 = 43_981;
@@ -123,8 +124,7 @@ fn cells_sent<K: Spelled + Copy + Drop>(
 fn spell_answers(heap: Global, answers: &[Answer]) -> Result<String, AllocError> {
     let mut text = String::new(heap);
     for answer in answers {
-        text.push_str("; ")?;
-        text.push_str(spell_answer(heap, *answer)?.as_str())?;
+        write!(text, "; {}", spell_answer(heap, *answer)?)?;
     }
     Ok(text)
 }

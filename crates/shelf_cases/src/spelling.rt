@@ -2,6 +2,7 @@
 use cells::{CellKind, Day, Glyph};
 use std::alloc::{AllocError, Global};
 use std::error::Error;
+use std::fmt::Write;
 use std::str::FromStr;
 
 // A kind whose cells can be spelled with all their fields.
@@ -56,21 +57,23 @@ impl Spelled for Day {
     }
 }
 
-// The text before the next space, and the text after it.
-pub(crate) fn word(text: &str) -> (&str, &str) {
-    text.split_once(' ').unwrap_or((text, ""))
+// The text before the next mark of this kind, and the text after it; all and nothing where there is none.
+fn before(text: &str, mark: char) -> (&str, &str) {
+    text.split_once(mark).unwrap_or((text, ""))
 }
 
-// The number before the next mark of this kind, and the text after it.
+pub(crate) fn word(text: &str) -> (&str, &str) {
+    before(text, ' ')
+}
+
 fn number_before<T: FromStr>(text: &str, mark: char) -> anyhow::Result<(T, &str)>
 where
     T::Err: Error + Drop,
 {
-    let (digits, rest) = text.split_once(mark).unwrap_or((text, ""));
+    let (digits, rest) = before(text, mark);
     Ok((digits.parse::<T>()?, rest))
 }
 
-// The number before the next space, and the text after it.
 pub(crate) fn number<T: FromStr>(text: &str) -> anyhow::Result<(T, &str)>
 where
     T::Err: Error + Drop,
@@ -89,16 +92,12 @@ pub(crate) fn read_cells<K: Spelled + Copy>(heap: Global, text: &str) -> anyhow:
     Ok(cells)
 }
 
-fn push_run(text: &mut String, cell: &str, times: usize, heap: Global) -> Result<(), AllocError> {
-    if times == 0 {
-        return Ok(());
+fn push_run(text: &mut String, cell: &str, times: usize) -> Result<(), AllocError> {
+    match times {
+        0 => Ok(()),
+        1 => write!(text, " {cell}"),
+        _ => write!(text, " {cell}x{times}"),
     }
-    text.push(' ')?;
-    text.push_str(cell)?;
-    if times > 1 {
-        text.push_str(format!(in heap; "x{times}")?.as_str())?;
-    }
-    Ok(())
 }
 
 // The same the other way, with a space before each cell or run of cells.
@@ -109,12 +108,12 @@ pub(crate) fn spell_cells<K: Spelled>(heap: Global, cells: &[K]) -> Result<Strin
     for cell in cells {
         let next = cell.spell(heap)?;
         if next != last {
-            push_run(&mut text, last.as_str(), times, heap)?;
+            push_run(&mut text, last.as_str(), times)?;
             last = next;
             times = 0;
         }
         times = times.saturating_add(1);
     }
-    push_run(&mut text, last.as_str(), times, heap)?;
+    push_run(&mut text, last.as_str(), times)?;
     Ok(text)
 }
