@@ -12,11 +12,11 @@ impl Shelf {
     // A new shelf of a kind: 1,024 blank rows, none in use.
     pub fn new<K: CellKind>() -> Shelf
         ensures rows { rows_on result ≡ [] }
-        ensures kind { result.kind ≡ K.tag }
+        ensures kind { result.kind ≡ K.NUMBER }
     {
         Shelf {
             table: Table::new(),
-            kind: K::kind_number(),
+            kind: K::NUMBER,
         }
     }
 

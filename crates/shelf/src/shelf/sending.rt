@@ -14,7 +14,7 @@ use cells::CellKind;
 impl Shelf {
     // One request, as if it had been called with its places, at most those there are.
     fn perform<K: CellKind>(&mut self, sent: &Sent<K>, work: &mut [u16]) -> Answer
-        ensures outcome { ComesTo result (rows_on self.new) (turn (self.old.kind == K.tag) K.coded (rows_on self.old) (call_of sent.now.request) (min sent.now.places (length work.old))) }
+        ensures outcome { ComesTo result (rows_on self.new) (turn (self.old.kind == K.NUMBER) K.coded (rows_on self.old) (call_of sent.now.request) (min sent.now.places (length work.old))) }
         ensures kind { self.new.kind ≡ self.old.kind }
     {
         let places = sent.places.min(work.len());
@@ -34,8 +34,8 @@ impl Shelf {
         work: &mut [u16],
     )
         requires { length answers.old ≡ length requests.now }
-        ensures rows { rows_on self.new ≡ rows_after (self.old.kind == K.tag) K.coded (rows_on self.old) (calls_sent (length work.old) requests.now) }
-        ensures answers { map told answers.new ≡ answers_of (self.old.kind == K.tag) K.coded (rows_on self.old) (calls_sent (length work.old) requests.now) }
+        ensures rows { rows_on self.new ≡ rows_after (self.old.kind == K.NUMBER) K.coded (rows_on self.old) (calls_sent (length work.old) requests.now) }
+        ensures answers { map told answers.new ≡ answers_of (self.old.kind == K.NUMBER) K.coded (rows_on self.old) (calls_sent (length work.old) requests.now) }
         ensures kind { self.new.kind ≡ self.old.kind }
     {
         // No `zip`: a proof knows nothing of what was written through an adapter of `iter_mut`.
@@ -55,7 +55,7 @@ impl Shelf {
         work: &mut [u16],
     ) -> usize
         ensures performed { result ≡ min (length requests.now) (length answers.old) }
-        ensures sent { SentTo K.coded K.has K.given K.same (self.old.kind == K.tag) (rows_on self.old) (calls_sent (length work.old) (take result requests.now)) result answers.old answers.new (rows_on self.new) }
+        ensures sent { SentTo K.coded K.has K.given K.same (self.old.kind == K.NUMBER) (rows_on self.old) (calls_sent (length work.old) (take result requests.now)) result answers.old answers.new (rows_on self.new) }
         ensures kind { self.new.kind ≡ self.old.kind }
         ensures cleared { work.new ≡ replicate (length work.old) 0 }
     {
@@ -73,7 +73,7 @@ impl Shelf {
         work: &mut [u16],
     ) -> Shelf
         ensures begun { let count = min (length requests.now) (length answers.old) in Begun K.coded K.has K.given K.same (calls_sent (length work.old) (take count requests.now)) count answers.old answers.new (rows_on result) }
-        ensures kind { result.kind ≡ K.tag }
+        ensures kind { result.kind ≡ K.NUMBER }
         ensures cleared { work.new ≡ replicate (length work.old) 0 }
     {
         let mut shelf = Shelf::new::<K>();

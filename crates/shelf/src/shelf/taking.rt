@@ -14,14 +14,14 @@ use cells::CellKind;
 impl Shelf {
     // Whether its cells are of this kind.
     pub(super) fn is_of_kind<K: CellKind>(&self) -> bool
-        ensures { result ≡ (self.now.kind == K.tag) }
+        ensures { result ≡ (self.now.kind == K.NUMBER) }
     {
-        self.kind == K::kind_number()
+        self.kind == K::NUMBER
     }
 
     // The number that the cells come to, on a work area that the caller clears.
     fn take_on<K: CellKind>(&mut self, cells: &[K], work: &mut [u16]) -> Result<u16, Refusal>
-        ensures outcome { ComesTo result (rows_on self.new) (taken (self.old.kind == K.tag) K.coded (rows_on self.old) cells.now (length work.old)) }
+        ensures outcome { ComesTo result (rows_on self.new) (taken (self.old.kind == K.NUMBER) K.coded (rows_on self.old) cells.now (length work.old)) }
         ensures kind { self.new.kind ≡ self.old.kind }
     {
         if !self.is_of_kind::<K>() {
@@ -33,7 +33,7 @@ impl Shelf {
     // The number that the cells come to by the rounds. What is written out for that number, now or later,
     // has the same cells.
     pub fn take<K: CellKind>(&mut self, cells: &[K], work: &mut [u16]) -> Result<u16, Refusal>
-        ensures outcome { ComesTo result (rows_on self.new) (taken (self.old.kind == K.tag) K.coded (rows_on self.old) cells.now (length work.old)) }
+        ensures outcome { ComesTo result (rows_on self.new) (taken (self.old.kind == K.NUMBER) K.coded (rows_on self.old) cells.now (length work.old)) }
         ensures kind { self.new.kind ≡ self.old.kind }
         ensures cleared { work.new ≡ replicate (length work.old) 0 }
         ensures kept { OfKind K.has (rows_on self.old) → OfKind K.has (rows_on self.new) }

@@ -32,8 +32,8 @@ impl Shelf {
         start: usize,
         cells: &mut [K],
     ) -> Result<(), Refusal>
-        ensures outcome { refusal_of result ≡ writing_check (self.now.kind == K.tag) (rows_on self.now) number start (length cells.old) }
-        ensures written { cells.new ≡ cells_after K.given (writing_check (self.now.kind == K.tag) (rows_on self.now) number start (length cells.old)) (rows_on self.now) number start cells.old }
+        ensures outcome { refusal_of result ≡ writing_check (self.now.kind == K.NUMBER) (rows_on self.now) number start (length cells.old) }
+        ensures written { cells.new ≡ cells_after K.given (writing_check (self.now.kind == K.NUMBER) (rows_on self.now) number start (length cells.old)) (rows_on self.now) number start cells.old }
     {
         if !self.is_of_kind::<K>() {
             return Err(Refusal::OtherKind);

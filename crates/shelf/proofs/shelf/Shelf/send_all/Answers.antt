@@ -6,7 +6,7 @@ use Rattle.shelf.proofs.shelf.Shelf.send_all.Goals as goal
 pub loop-i-preserved : goal.loop-i-preserved
 loop-i-preserved g c =
     let shelf = c.args.self.now in (
-      performed_more shelf.kind g.K.CellKind.tag g.K.CellKind.coded (rows_on shelf) (length c.args.work.now) c.args.requests.now c.loop-i.i c.index-requests-i.result
+      performed_more shelf.kind g.K.CellKind.NUMBER g.K.CellKind.coded (rows_on shelf) (length c.args.work.now) c.args.requests.now c.loop-i.i c.index-requests-i.result
           (rows_on c.loop-i.self) (rows_on c.perform.new.self) c.loop-i.answers c.perform.result c.loop-i.self.kind (length c.loop-i.work)
           (omega arith) c.index-requests-i.is (omega arith) c.loop-i.invariant.1 (omega arith) c.loop-i.invariant.0 c.perform.ensures.outcome,
       c.perform.ensures.kind ∙ c.loop-i.invariant.1,

@@ -5,5 +5,5 @@ use Rattle.shelf.proofs.shelf.Shelf.send_all.Given as goal
 
 abbrev pub invariant-loop-i : goal.invariant-loop-i
 invariant-loop-i g l =
-    Performed l.initial.self.kind g.K.CellKind.tag g.K.CellKind.coded (rows_on l.initial.self) (length l.initial.work) l.requests l.i (rows_on l.self) l.answers
+    Performed l.initial.self.kind g.K.CellKind.NUMBER g.K.CellKind.coded (rows_on l.initial.self) (length l.initial.work) l.requests l.i (rows_on l.self) l.answers
     × (l.self.kind ≡ l.initial.self.kind)
