@@ -5,7 +5,6 @@ ghost use Rattle.ask.specs.Transcript.{transcript_of};
 ghost use Rattle.question_cases.specs.Cases.{asking_lines, expected_line};
 
 use crate::pile::ask_pile;
-use anyhow::anyhow;
 use ask::{Line, parse, transcript};
 use std::alloc::{AllocError, Global};
 
@@ -65,22 +64,23 @@ fn through_lines(heap: Global, case: Case<'_>) -> Result<String, AllocError>
 }
 
 impl<'a> Case<'a> {
-    pub(crate) fn of(heap: Global, line: &'a str) -> anyhow::Result<Self> {
-        let columns = line.split('|').map(str::trim).collect::<Vec<_>>(heap)?;
-        let (question, codes, layers, arguments, answer) = match columns.as_slice() {
-            [question, codes, arguments, answer] => (question, codes, &"", arguments, answer),
-            [question, codes, layers, arguments, answer] => {
-                (question, codes, layers, arguments, answer)
-            }
-            _ => return Err(anyhow!("a line has neither four columns nor five")),
+    pub(crate) fn of(line: &'a str) -> Self {
+        let mut columns = line.splitn(5, '|');
+        let question = columns.next().unwrap_or("").trim();
+        let codes = columns.next().unwrap_or("").trim();
+        let third = columns.next().unwrap_or("").trim();
+        let fourth = columns.next().unwrap_or("").trim();
+        let (layers, arguments, answer) = match columns.next() {
+            None | Some("") => ("", third, fourth),
+            Some(fifth) => (third, fourth, fifth.trim()),
         };
-        Ok(Case {
+        Case {
             question,
             codes,
             layers,
             arguments,
             answer,
-        })
+        }
     }
 
     // The line that is expected.

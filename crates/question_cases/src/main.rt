@@ -17,7 +17,7 @@ fn run_file(rt: &HostRuntime, name: &str) -> anyhow::Result<bool> {
     let text = fs::read_to_string(rt, name)?;
     let mut tallies = Tallies::new();
     for (i, line) in text.lines().enumerate() {
-        let case = Case::of(heap, line)?;
+        let case = Case::of(line);
         let expected = case.expected(heap)?;
         let got = case.run(heap)?;
         let agrees = expected == got;
