@@ -27,12 +27,11 @@ stretch_on n m (x ∷ s) =
       | inr other ↦ let e : m ≡ m + 0 = omega arith in rw other (ap (λ i. stretch n i ∷ stretches_from x 1 s) e)
     ]
 
-pub stretch_first : (s : List ℕ) → 0 < length s → stretches s ≡ stretch (get_or s 0 0) (prefix_len (λ x. eqb x (get_or s 0 0)) s) ∷ stretches (drop (prefix_len (λ x. eqb x (get_or s 0 0)) s) s)
-stretch_first [] some = absurd (omega arith)
-stretch_first (x ∷ s) some =
+pub stretch_first : (x : ℕ) (s : List ℕ) → stretches (x ∷ s) ≡ stretch x (1 + prefix_len (λ y. eqb y x) s) ∷ stretches (drop (1 + prefix_len (λ y. eqb y x) s) (x ∷ s))
+stretch_first x s =
     let count = prefix_len (λ y. eqb y x) s in
     let one_more : suc count ≡ 1 + count = omega arith in
-    rw (eq-eqb x x refl) (stretch_on x 1 s ∙ ap (λ i. stretch x (1 + count) ∷ stretches (drop i (x ∷ s))) one_more)
+    stretch_on x 1 s ∙ ap (λ i. stretch x (1 + count) ∷ stretches (drop i (x ∷ s))) one_more
 
 -- the first pair of a string, or its first number
 pub partner_joined : (k : ℕ) (s : List ℕ) → 2 ≤ length s → joins k (get_or s 0 0) (get_or s 1 0) ≡ true → Partner k s (Some (get_or s 1 0))
@@ -59,6 +58,11 @@ pub partner_not_right : (k : ℕ) (s : List ℕ) → 2 ≤ length s → is_left 
 partner_not_right k s long left =
     let second = is_left k (get_or s 1 0) in
     partner_apart k s long (and_right (is_left k (get_or s 0 0)) (not second) (not_from_true second left))
+
+-- a number that is not left stays as it is
+pub not_left_alone : (k x : ℕ) (s : List ℕ) → is_left k x ≡ false → pairs k (x ∷ s) ≡ one x ∷ pairs k s
+not_left_alone k x [] right = refl
+not_left_alone k x (y ∷ s) right = cond-false (joins k x y) (new (Pair x y) ∷ pairs k s) (one x ∷ pairs_from k y s) (and_left (is_left k x) (not (is_left k y)) right)
 
 -- what filing answered, from the number and the rows
 pub filed_some : (rows grown : List Row) (o : Option Numbered) (n : ℕ) → Some n ≡ number_in o → grown ≡ rows_left rows o → o ≡ Some (record { number = n; rows = grown })

@@ -1,5 +1,5 @@
 // Even rounds: every left number followed by a right number becomes a pair.
-ghost use Rattle.std.specs.Prelude.{◌≡◌, ◌<◌, length};
+ghost use Rattle.std.specs.Prelude.{◌≡◌, ◌<◌, ◌∷◌};
 ghost use Rattle.recompression.specs.InPlace.{IsFirst, Partner};
 ghost use Rattle.rows.specs.Rounds.{is_left, left_at, pairs};
 
@@ -28,27 +28,22 @@ fn is_left(round: u32, number: u16) -> bool
 }
 
 // The number with which the first of the numbers makes a pair in that round, if it does.
-#[tactic(auto, using(crate::proofs::RoundFacts::partner_not_left))]
-fn partner(round: u32, numbers: &[u16]) -> Option<u16>
-    requires { 0 < length numbers.now }
-    ensures { Partner round numbers.now result }
+#[tactic(auto, using(crate::proofs::RoundFacts::not_left_alone))]
+fn partner(round: u32, first: u16, rest: &[u16]) -> Option<u16>
+    ensures { Partner round (first ∷ rest.now) result }
 {
-    match numbers {
-        [first, second, ..] if is_left(round, *first) && !is_left(round, *second) => {
-            Some(*second)
-        },
+    match rest {
+        [second, ..] if is_left(round, first) && !is_left(round, *second) => Some(*second),
         _ => None,
     }
 }
 
 // The first block of a string in an even round, and how many numbers it takes.
-pub(super) fn first_pair(round: u32, numbers: &[u16]) -> (Block, usize)
-    requires { 0 < length numbers.now }
-    ensures { IsFirst (pairs round) numbers.now result.0 result.1 }
+pub(super) fn first_pair(round: u32, first: u16, rest: &[u16]) -> (Block, usize)
+    ensures { IsFirst (pairs round) (first ∷ rest.now) result.0 result.1 }
 {
-    let left = numbers[0];
-    match partner(round, numbers) {
-        Some(right) => (Block::New(Shape::Pair { left, right }), 2),
-        None => (Block::One(left), 1),
+    match partner(round, first, rest) {
+        Some(right) => (Block::New(Shape::Pair { left: first, right }), 2),
+        None => (Block::One(first), 1),
     }
 }

@@ -1,6 +1,6 @@
 // One round, run in place: the string is cut into blocks from left to right, and each block that is a shape gets
 // its number.
-ghost use Rattle.std.specs.Prelude.{◌≡◌, ◌<◌, ◌≤◌, length};
+ghost use Rattle.std.specs.Prelude.{◌≡◌, ◌<◌, ◌≤◌, ◌∷◌, length};
 ghost use Rattle.recompression.specs.Contents.{rows_in, number_in, rows_left};
 ghost use Rattle.recompression.specs.InPlace.{IsFirst, Ran, block_of, file_block};
 ghost use Rattle.rows.specs.Rounds.{blocks};
@@ -17,18 +17,17 @@ pub(super) enum Block {
     New(Shape),
 }
 
-// The first block of a string, and how many of its numbers it takes: odd rounds merge stretches, and even rounds
-// make pairs.
+// The first block of a string, given as its first number and the rest, and how many numbers it takes: odd rounds
+// merge stretches, and even rounds make pairs.
 #[tactic(auto, unfolding(rows::specs::Rounds::blocks))]
-fn first_block(round: u32, numbers: &[u16]) -> (Block, usize)
-    requires some { 0 < length numbers.now }
-    requires few { length numbers.now ≤ 65535 }
-    ensures { IsFirst (blocks round) numbers.now result.0 result.1 }
+fn first_block(round: u32, first: u16, rest: &[u16]) -> (Block, usize)
+    requires { length rest.now < 65535 }
+    ensures { IsFirst (blocks round) (first ∷ rest.now) result.0 result.1 }
 {
     if round % 2 == 1 {
-        first_stretch(numbers)
+        first_stretch(first, rest)
     } else {
-        first_pair(round, numbers)
+        first_pair(round, first, rest)
     }
 }
 
@@ -53,8 +52,8 @@ impl Table {
         // written.
         let mut read = 0;
         let mut write = 0;
-        while read < numbers.len() {
-            let (block, taken) = first_block(round, &numbers[read..]);
+        while let Some((first, rest)) = numbers[read..].split_first() {
+            let (block, taken) = first_block(round, *first, rest);
             numbers[write] = self.file_block(round, block)?;
             read += taken;
             write += 1;

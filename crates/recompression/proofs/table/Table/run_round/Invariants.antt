@@ -5,8 +5,8 @@ use Rattle.recompression.specs.Tables.{in_use}
 use Rattle.recompression.proofs.RoundFacts.{Going}
 use Rattle.recompression.proofs.table.Table.run_round.Given as goal
 
-abbrev pub invariant-loop-read : goal.invariant-loop-read
-invariant-loop-read l = Going l.round (blocks l.round) (in_use l.initial.self.slots) l.initial.numbers l.read l.write (in_use l.self.slots) l.numbers
+abbrev pub invariant-loop-first : goal.invariant-loop-first
+invariant-loop-first l = Going l.round (blocks l.round) (in_use l.initial.self.slots) l.initial.numbers l.read l.write (in_use l.self.slots) l.numbers
 
-abbrev pub decreases-loop-read : goal.decreases-loop-read
-decreases-loop-read l = length l.numbers - l.read
+abbrev pub decreases-loop-first : goal.decreases-loop-first
+decreases-loop-first l = length l.numbers - l.read
