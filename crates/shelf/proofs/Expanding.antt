@@ -1,5 +1,5 @@
 -- Leaf numbers written into a work area, and the strips that they are the leaves of. Assumes nothing.
-use Rattle.std.proofs.Common.{◌≡◌, ℕ, ◌+◌, ◌≤◌, List, Ok, Err, Result, ◌++◌, length, take, drop, sym, ap, ◌∙◌, arith}
+use Rattle.std.proofs.Common.{◌≡◌, ℕ, ◌≤◌, List, ◌++◌, length, take, drop, sym, ap, ◌∙◌, arith}
 use Rattle.std.proofs.lemmas.List.{take_all}
 use Rattle.book.specs.Calls.{part_of}
 use Rattle.rows.specs.declared.Row.{Row}
@@ -8,16 +8,10 @@ use Rattle.rows.specs.Lawful.{Lawful}
 use Rattle.rows.specs.Rounds.{settle}
 use Rattle.rows.specs.Strips.{strip, leaf_string}
 use Rattle.rows.proofs.LeafFacts.{LeavesOf, leaves_append, leaves_take, leaves_drop, length_leaves, leaf_string_names, leaves_found}
-use Rattle.recompression.specs.declared.table.expansion.OutOfStrip.{OutOfStrip}
-use Rattle.recompression.specs.Expansions.{written_out, Expanded}
+use Rattle.recompression.specs.Expansions.{written_out}
 use Rattle.recompression.specs.Settling.{all_rounds}
 use Rattle.shelf.proofs.RowFacts.{kept_length}
 use Rattle.shelf.proofs.Settlings.{settle_from_leaves}
-
--- an expansion that fits is done
-pub expanded_all : (rows : List Row) (n start : ℕ) (old : List ℕ) (r : Result (Unit {0}) OutOfStrip) (new : List ℕ) → Expanded rows n start old r new → start + length old ≤ (row_of rows n).length → new ≡ written_out rows n start (length old)
-expanded_all rows n start old (Ok done) new h fits = h.1
-expanded_all rows n start old (Err refused) new h fits = absurd (omega (arith, h.0))
 
 -- the rounds on leaf numbers are those on the strip that they are the leaves of
 pub settles_leaves : (rows : List Row) (codes numbers : List ℕ) → LeavesOf rows codes numbers → settle rows codes ≡ all_rounds rows numbers
