@@ -6,6 +6,7 @@ use Rattle.std.proofs.ByRecursion.{All-append}
 use Rattle.std.proofs.lemmas.Bool.{cases_Bool, cases_lt, cond-true, cond-false, and_from, and_left, and_right, le-leb, lt-leb, leb-true}
 use Rattle.std.specs.List.{AllZip}
 use Rattle.cells.specs.Printing.{first_unprintable}
+use Rattle.rows.proofs.LawfulFacts.{strip_short}
 use Rattle.rows.specs.declared.Row.{Row}
 use Rattle.rows.specs.Lawful.{Lawful}
 use Rattle.rows.specs.Rounds.{Settled, settle, number_left}
@@ -16,7 +17,6 @@ use Rattle.rows.proofs.ShapeFacts.{settle_shapes}
 use Rattle.book.specs.Calls.{answered, refused, Turn, refusing, settling, filing, printed, printing, taken, is_known, joined_up, part_of, cut_out}
 use Rattle.book.specs.Laws.{leaf_of_kind, OfKind}
 use Rattle.book.proofs.CodeFacts.{KindLaws, HasAll, has_take, has_drop, strip_has, codes_given, has_codes, same_from_codes, printed_codes}
-use Rattle.book.proofs.RunFacts.{strip_short}
 
 -- a strip that is filed
 module _ (rows : List Row) (codes : List ℕ) (law : Lawful rows) (short : length codes ≤ 65535) where

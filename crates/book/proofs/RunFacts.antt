@@ -1,31 +1,15 @@
 -- One strip has one number, one number has one strip, over any list of calls. Assumes nothing.
-use Rattle.std.proofs.Common.{◌≡◌, ℕ, zero, suc, ◌≤◌, Bool, List, [], ◌∷◌, ◌++◌, length, get_or, Option, sym, refl, ap, ◌∙◌, subst, inl, inr, arith}
-use Rattle.std.proofs.lemmas.List.{append-nil, append_assoc, get_or_past}
-use Rattle.std.proofs.lemmas.Bool.{cases_lt}
+use Rattle.std.proofs.Common.{◌≡◌, ℕ, zero, suc, Bool, List, [], ◌∷◌, ◌++◌, get_or, Option, sym, refl, ap, ◌∙◌, subst, arith}
+use Rattle.std.proofs.lemmas.List.{append-nil, append_assoc}
 use Rattle.rows.specs.declared.Row.{Row}
 use Rattle.rows.specs.Lawful.{Lawful}
-use Rattle.rows.specs.Strips.{strips_from, strip}
-use Rattle.rows.proofs.LawfulFacts.{row_lawful}
-use Rattle.rows.proofs.StripFacts.{length_strips}
+use Rattle.rows.proofs.LawfulFacts.{strip_short}
 use Rattle.rows.proofs.OneNumber.{Stands, stands_append, one_number}
 use Rattle.book.specs.Calls.{Call, taking, joining, cutting, turn, wrote}
 use Rattle.book.specs.Laws.{OfKind, Answered, OneNumber}
 use Rattle.book.specs.Runs.{Sent, rows_after, answers_of, strips_of}
 use Rattle.book.proofs.CodeFacts.{KindLaws, CodesOf, same_from_codes, codes_from_same}
 use Rattle.book.proofs.TurnFacts.{Told, taken_told, joined_told, cut_told}
-
--- the strip of any number on lawful rows is short
-pub strip_short : (rows : List Row) → Lawful rows → (n : ℕ) → length (strip rows n) ≤ 65535
-unfolding strip
-strip_short rows law zero = omega arith
-strip_short rows law (suc n) =
-    elim (cases_lt n (length rows)) [
-      | inl within ↦ (row_lawful rows law (suc n) (omega arith) within).short
-      | inr past ↦ subst (λ xs. length xs ≤ 65535) (sym (unknown rows n past)) (omega arith)
-    ]
-  where
-    unknown : (rs : List Row) (k : ℕ) → length rs ≤ k → strip rs (suc k) ≡ []
-    unknown rs k past = get_or_past ([] ∷ strips_from [] rs) (suc k) [] (let l = length_strips rs in omega arith)
 
 module _ {C : Type 0} (same_kind : Bool) (coded : C → Option ℕ) (has : ℕ → Bool) (given : ℕ → C) (same : C → C → Type 0) (laws : KindLaws coded has given same) where
   pub turn_told : (rows : List Row) → Lawful rows → OfKind has rows → (call : Call C) (places : ℕ) → Told coded has rows (wrote given rows call) (turn same_kind coded rows call places)

@@ -5,7 +5,7 @@ use Rattle.std.specs.List.{flat_map}
 use Rattle.std.specs.declared.alloc.AllocError.{AllocError}
 use Rattle.cells.specs.declared.glyph.Glyph.{Glyph}
 use Rattle.cells.specs.Glyphs.{glyph_of, glyph_known, glyph_code, glyph_given}
-use Rattle.rows.specs.Lawful.{Lawful}
+use Rattle.rows.proofs.LawfulFacts.{lawful_none}
 use Rattle.book.specs.Calls as book
 use Rattle.book.specs.Laws.{OneNumber}
 use Rattle.book.specs.Runs.{answers_of, strips_of}
@@ -60,9 +60,6 @@ glyph_laws = record { alike = alike; known = known; back = back }
 
     back : (n : ℕ) → glyph_known n ≡ true → glyph_code (glyph_given n) ≡ Some n
     back n is = ap (λ b. glyph_code (cond b (glyph_of n) (glyph_of 32))) is ∙ ap (λ b. cond b (Some n) None) is
-
-lawful_none : Lawful []
-lawful_none = (omega arith, λ k within. absurd (omega arith))
 
 -- what a job prints is lawful
 pub printout_lawful : (job text : List ℕ) → text ≡ printed_by job → LawfulPrintout job text

@@ -1,16 +1,16 @@
 -- What the test of a lawful row says, and that lawful rows stay lawful under added rows.
 -- Assumes nothing.
-use Rattle.std.proofs.Common.{◌≡◌, ℕ, ◌+◌, ◌-◌, ◌<◌, ◌≤◌, true, false, ◌&&◌, eqb, leb, List, [], ◌∷◌, ◌++◌, length, take, Some, None, Option, sym, refl, ap, ◌∙◌, subst, arith, length-append}
-use Rattle.std.proofs.lemmas.List.{append-nil, length-take-le, take-append-le, nil_from_length}
-use Rattle.std.proofs.lemmas.Bool.{both_ways, and_parts, and_from, eqb-true, eq-eqb, leb-true, le-leb}
+use Rattle.std.proofs.Common.{◌≡◌, ℕ, zero, suc, ◌+◌, ◌-◌, ◌<◌, ◌≤◌, true, false, ◌&&◌, eqb, leb, List, [], ◌∷◌, ◌++◌, length, take, Some, None, Option, sym, refl, ap, ◌∙◌, subst, inl, inr, arith, length-append}
+use Rattle.std.proofs.lemmas.List.{append-nil, length-take-le, take-append-le, nil_from_length, get_or_past}
+use Rattle.std.proofs.lemmas.Bool.{both_ways, and_parts, and_from, eqb-true, eq-eqb, leb-true, le-leb, cases_lt}
 use Rattle.rows.specs.declared.Row.{Row}
 use Rattle.rows.specs.Filing.{find, row_of}
 use Rattle.rows.specs.Lawful.{parts_below, found_as, comes_to, lawful_row, Lawful}
 use Rattle.rows.specs.Rounds.{Settled, settle, number_left}
-use Rattle.rows.specs.Strips.{strip}
+use Rattle.rows.specs.Strips.{strips_from, strip}
 use Rattle.rows.proofs.FilingFacts.{find_append}
 use Rattle.rows.proofs.NamingFacts.{settle_grows}
-use Rattle.rows.proofs.StripFacts.{Parts, strip_append, row_append}
+use Rattle.rows.proofs.StripFacts.{Parts, strip_append, row_append, length_strips}
 
 -- all that is promised of row n
 pub record RowLawful (rows : List Row) (n : ℕ) : Type 0 where
@@ -97,3 +97,20 @@ row_lawful rows law n some within =
 
 pub lawful_parts : (rows : List Row) → Lawful rows → Parts rows
 lawful_parts rows law n some within = (row_lawful rows law n some within).parts
+
+-- no rows are lawful
+pub lawful_none : Lawful []
+lawful_none = (omega arith, λ k within. absurd (omega arith))
+
+-- the strip of any number on lawful rows is short
+pub strip_short : (rows : List Row) → Lawful rows → (n : ℕ) → length (strip rows n) ≤ 65535
+unfolding strip
+strip_short rows law zero = omega arith
+strip_short rows law (suc n) =
+    elim (cases_lt n (length rows)) [
+      | inl within ↦ (row_lawful rows law (suc n) (omega arith) within).short
+      | inr past ↦ subst (λ xs. length xs ≤ 65535) (sym (unknown rows n past)) (omega arith)
+    ]
+  where
+    unknown : (rs : List Row) (k : ℕ) → length rs ≤ k → strip rs (suc k) ≡ []
+    unknown rs k past = get_or_past ([] ∷ strips_from [] rs) (suc k) [] (let l = length_strips rs in omega arith)

@@ -1,16 +1,13 @@
 -- Calls that go on with a history. Assumes nothing.
-use Rattle.std.proofs.Common.{◌≡◌, ℕ, Bool, true, List, [], ◌++◌, Option, sym, ap, ◌∙◌, subst, arith}
+use Rattle.std.proofs.Common.{◌≡◌, ℕ, Bool, true, List, [], ◌++◌, Option, sym, ap, ◌∙◌, subst}
 use Rattle.rows.specs.declared.Row.{Row}
-use Rattle.rows.specs.Lawful.{Lawful}
+use Rattle.rows.proofs.LawfulFacts.{lawful_none}
 use Rattle.book.specs.Calls.{Answer}
 use Rattle.book.specs.Laws.{OneNumber}
 use Rattle.book.specs.Runs.{Sent, rows_after, answers_of, strips_of}
 use Rattle.book.proofs.CodeFacts.{KindLaws}
 use Rattle.book.proofs.RunFacts.{one_number_of_run, rows_append, answers_append}
 use Rattle.shelf.specs.Sending.{GoesOn}
-
-lawful_none : Lawful []
-lawful_none = (omega arith, λ k within. absurd (omega arith))
 
 pub goes_on : {C : Type 0} (coded : C → Option ℕ) (has : ℕ → Bool) (given : ℕ → C) (same : C → C → Type 0) → KindLaws coded has given same
     → (same_kind : Bool) (before : List Row) (past calls : List (Sent C)) (answers : List Answer) (after : List Row) → same_kind ≡ true → before ≡ rows_after true coded [] past

@@ -2,14 +2,13 @@
 use Rattle.std.proofs.Common.{◌≡◌, ℕ, zero, suc, ◌<◌, ◌≤◌, cond, ltb, leb, List, ◌∷◌, length, get_or, Some, None, sym, ap, ◌∙◌, inl, inr, arith}
 use Rattle.std.proofs.lemmas.List.{get_or_past}
 use Rattle.std.proofs.lemmas.Bool.{cases_lt, cond-true, cond-false, le-leb, lt-leb}
-use Rattle.book.proofs.RunFacts.{strip_short}
 use Rattle.rows.specs.declared.Row.{Row}
 use Rattle.recompression.specs.Codes.{code_in}
 use Rattle.recompression.proofs.CodeFacts.{strip_unknown}
 use Rattle.rows.specs.Filing.{blank_row, row_of}
 use Rattle.rows.specs.Lawful.{Lawful}
 use Rattle.rows.specs.Strips.{strip}
-use Rattle.rows.proofs.LawfulFacts.{row_lawful}
+use Rattle.rows.proofs.LawfulFacts.{row_lawful, strip_short}
 use Rattle.rows.proofs.StripFacts.{strip_none}
 use Rattle.shelf.specs.Contents.{length_at, code_at}
 

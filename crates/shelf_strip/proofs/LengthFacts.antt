@@ -3,9 +3,7 @@ use Rattle.std.proofs.Common.{◌≡◌, ℕ, zero, suc, ◌<◌, ◌≤◌, leb
 use Rattle.std.proofs.lemmas.Bool.{cases_lt, cond-true, cond-false, le-leb, lt-leb}
 use Rattle.recompression.proofs.CodeFacts.{strip_unknown}
 use Rattle.rows.specs.declared.Row.{Row}
-use Rattle.rows.specs.Lawful.{Lawful}
 use Rattle.rows.specs.Strips.{strip}
-use Rattle.rows.proofs.LawfulFacts.{row_lawful}
 use Rattle.rows.proofs.StripFacts.{strip_none}
 use Rattle.shelf.specs.Contents.{length_at}
 
@@ -17,14 +15,6 @@ length_or_none rows n r o is r_is =
           r_is ∙ ap (λ x. unwrap_or x 0) (is ∙ cond-false (leb n (length rows)) (Some (length (strip rows n))) None (lt-leb n (length rows) unknown))
           ∙ sym (ap length (strip_unknown rows n unknown))
       | inr known ↦ r_is ∙ ap (λ x. unwrap_or x 0) (is ∙ cond-true (leb n (length rows)) (Some (length (strip rows n))) None (le-leb n (length rows) known))
-    ]
-
-pub short_strip : (rows : List Row) → Lawful rows → (n : ℕ) → length (strip rows n) ≤ 65535
-short_strip rows law zero = omega (arith, ap length (strip_none rows))
-short_strip rows law (suc n) =
-    elim (cases_lt (length rows) (suc n)) [
-      | inl unknown ↦ omega (arith, ap length (strip_unknown rows (suc n) unknown))
-      | inr known ↦ (row_lawful rows law (suc n) (omega arith) known).short
     ]
 
 -- a number whose strip has a code is known

@@ -1,5 +1,5 @@
 -- What is left to show of `run_round`. Assumes nothing.
-use Rattle.std.proofs.Common.{◌≡◌, ◌-◌, ◌≤◌, ◌∷◌, length, take, drop, sym, subst, rules, arith, length-take, length-drop}
+use Rattle.std.proofs.Common.{◌≡◌, ◌-◌, ◌∷◌, length, take, drop, sym, subst, rules, arith, length-take, length-drop}
 use Rattle.rows.specs.Rounds.{blocks}
 use Rattle.recompression.specs.InPlace.{IsFirst}
 use Rattle.recompression.specs.Tables.{in_use}

@@ -1,5 +1,5 @@
 use Rattle.std.proofs.Common.{◌≡◌, ℕ, ◌+◌, get_or, set, ap, ◌∙◌, arith}
-use Rattle.book.proofs.RunFacts.{strip_short}
+use Rattle.rows.proofs.LawfulFacts.{strip_short}
 use Rattle.rows.specs.Strips.{strip}
 use Rattle.shelf.specs.Contents.{rows_on}
 use Rattle.shelf.proofs.CellLoop.{code_inside, filled_more}
