@@ -10,6 +10,10 @@ part xs start size = take size (drop start xs)
 abbrev pub cut : List ℕ → Fragment → List ℕ
 cut xs f = part xs f.start f.length
 
+-- whether a fragment lies within so many places
+abbrev pub within : ℕ → Fragment → Bool
+within len f = nat_le (f.start + f.length) len
+
 -- whether a fragment lies in the strip
 abbrev pub inside : List ℕ → Fragment → Bool
 inside xs f = nat_le (f.start + f.length) (length xs)

@@ -2,6 +2,8 @@
 // repetition short. Theory stands here; nothing in this crate reads a strip.
 #![tactic(auto)]
 
+ghost use Rattle.std.specs.Prelude.{◌≡◌};
+ghost use Rattle.periodicity.specs.Fragments.{within};
 ghost use Rattle.periodicity.specs.Laws.{TestsHold, CommonGreatest, DifferenceRepeats, LeastDivides, OverlapsProgress, PlacesProgress, RecordsJoin};
 
 // A part of a strip: where it starts, and how many codes it has.
@@ -9,6 +11,15 @@ ghost use Rattle.periodicity.specs.Laws.{TestsHold, CommonGreatest, DifferenceRe
 pub struct Fragment {
     pub start: usize,
     pub length: usize,
+}
+
+impl Fragment {
+    // Whether it lies within so many places; any numbers will do.
+    pub fn lies_within(self, len: usize) -> bool
+        ensures { result ≡ within len self }
+    {
+        self.start <= len && self.length <= len - self.start
+    }
 }
 
 // An arithmetic progression of `count` numbers: first, first + step, and so on.
