@@ -1,6 +1,6 @@
 // Days: the kind of cell that is one day of a calendar, with a mark and a note.
 ghost use Rattle.std.specs.Prelude.{◌≡◌};
-ghost use Rattle.cells.specs.Days.{blank_day, day_code, day_known, day_given};
+ghost use Rattle.cells.specs.Days.{blank_day, day_code, day_known, day_given, spelled_day};
 ghost use Rattle.std.proofs.Common.{rules};
 
 use crate::CellKind;
@@ -30,9 +30,18 @@ pub struct Day {
     pub note: u8,
 }
 
+// The day, the weekday and the mark that a number spells.
+fn parts(code: u32) -> (u32, u32, u32)
+    ensures { result ≡ ((spelled_day code).day, (spelled_day code).weekday, (spelled_day code).mark) }
+{
+    let date = code / MARKS;
+    (date / WEEKDAYS, date % WEEKDAYS, code % MARKS)
+}
+
 impl CellKind for Day {
     const NUMBER: u8 = 2;
 
+    // Written out, since a constant cannot call `default`.
     const BLANK: Day = Day {
         day: 0,
         weekday: 0,
@@ -80,9 +89,8 @@ impl CellKind for Day {
     }
 
     fn has_code(code: u32) -> bool {
-        let day = code / MARKS / WEEKDAYS;
+        let (day, weekday, _) = parts(code);
         // Three bits hold no weekday past the last.
-        let weekday = code / MARKS % WEEKDAYS;
         1 <= day && day <= u32::from(LAST_DAY) && 1 <= weekday
     }
 
@@ -90,10 +98,12 @@ impl CellKind for Day {
         if !Self::has_code(code) {
             return Self::BLANK;
         }
+        // All three fit: an error of `try_from` would never come.
+        let (day, weekday, mark) = parts(code);
         Day {
-            day: (code / MARKS / WEEKDAYS) as u8,
-            weekday: (code / MARKS % WEEKDAYS) as u8,
-            mark: (code % MARKS) as u8,
+            day: day as u8,
+            weekday: weekday as u8,
+            mark: mark as u8,
             note: 0,
         }
     }

@@ -50,9 +50,6 @@ impl CellKind for Glyph {
     }
 
     fn cell(code: u32) -> Glyph {
-        match u16::try_from(code) {
-            Ok(number) => Glyph(number),
-            Err(_) => Self::BLANK,
-        }
+        u16::try_from(code).map_or(Self::BLANK, Glyph)
     }
 }

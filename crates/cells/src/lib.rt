@@ -52,7 +52,8 @@ pub trait CellKind: Sized {
     fn code(&self) -> Option<u32>
         ensures { result ≡ coded self.now };
 
-    // Whether some printable cell has the code.
+    // Whether some printable cell has the code: beside `cell`, since the blank is given back for other codes, and
+    // so tells none apart.
     fn has_code(code: u32) -> bool
         ensures { result ≡ has code };
 

@@ -21,7 +21,8 @@ pub use reversed::Reversed;
 pub use side::Side;
 pub use window::Window;
 
-// The most codes that a keeper stands for.
+// The most codes that a keeper stands for. A shelf has the same limit for cells (`rows`), of which nothing here
+// knows.
 pub const MAX_CODES: usize = 65_535;
 
 pub trait Keeper {
@@ -40,13 +41,13 @@ pub trait Keeper {
         ensures { result ≡ code_of (codes self.now) place };
 
     // The greatest number of codes that agree on a side of `i` and `j`; absent when `i` or `j` is above
-    // the length.
+    // the length. The places are two numbers, since they are nothing together; and each keeper tests them itself,
+    // since a method behind the test would ask something of its caller.
     fn extension(&self, side: Side, i: usize, j: usize) -> Option<usize>
         ensures value { result ≡ extension_of side (codes self.now) i j }
         ensures greatest { GreatestOn side (codes self.now) i j result };
 
-    // The greatest number of codes that agree from `i` and from `j` on; absent when `i` or `j` is
-    // above the length.
+    // The same of either side by its own name: the codes that agree from `i` and from `j` on, ..
     final fn ahead(&self, i: usize, j: usize) -> Option<usize>
         ensures value { result ≡ ahead_of (codes self.now) i j }
         ensures greatest { GreatestAhead (codes self.now) i j result }
@@ -54,8 +55,7 @@ pub trait Keeper {
         self.extension(Side::Ahead, i, j)
     }
 
-    // The greatest number of codes that agree just before `i` and just before `j`, going back; absent
-    // when `i` or `j` is above the length.
+    // .. and those that agree just before `i` and just before `j`, going back.
     final fn behind(&self, i: usize, j: usize) -> Option<usize>
         ensures value { result ≡ behind_of (codes self.now) i j }
         ensures greatest { GreatestBehind (codes self.now) i j result }

@@ -29,10 +29,11 @@ fn first_codes(codes: &[u32], most: usize) -> &[u32]
     ensures few { length result.now ≤ most }
 {
     let count = codes.len().min(most);
-    &codes[0..count]
+    &codes[..count]
 }
 
-// How many codes agree from the start of both lists on.
+// How many codes agree from the start of both lists on. This chain and the next are two, since one over any
+// iterators would have to say in its contract what they yield.
 fn agreeing_ahead(left: &[u32], right: &[u32]) -> usize
     ensures { result ≡ common left.now right.now }
 {

@@ -24,7 +24,7 @@ pub struct Row {
     pub round: u32,
 }
 
-// A row that is not in use.
+// A row that is not in use. It is written out, since a constant cannot call `default`.
 pub const BLANK: Row = Row {
     shape: Shape::Leaf { code: 0 },
     length: 0,

@@ -41,7 +41,7 @@ impl Cursor {
         }
     }
 
-    // Whether both stand at the same place of one number's strip.
+    // Whether both stand at the same place of one number's strip. No `==`, since the reach does not count.
     fn stands_with(self, other: Cursor) -> bool
         ensures { result ≡ same_stand self other }
     {
@@ -49,7 +49,8 @@ impl Cursor {
     }
 }
 
-// A place in a pair falls in the first of its parts or in the second.
+// A place in a pair falls in the first of its parts or in the second. A length stands beside its number, since it
+// is looked up once.
 fn in_pair(
     first: u16,
     first_length: usize,
@@ -61,17 +62,9 @@ fn in_pair(
     ensures { result ≡ in_pair first first_length second second_length place }
 {
     if place < first_length {
-        return Cursor {
-            number: first,
-            place,
-            reach: first_length - place,
-        };
-    }
-    let rest = place - first_length;
-    Cursor {
-        number: second,
-        place: rest,
-        reach: second_length - rest,
+        Cursor::at(first, first_length, place)
+    } else {
+        Cursor::at(second, second_length, place - first_length)
     }
 }
 
@@ -133,6 +126,7 @@ impl View<'_> {
         if left.stands_with(right) {
             return left.reach.min(right.reach);
         }
+        // No `map_or`: a closure in a cycle of calls would need clauses of its own.
         if left.number < right.number {
             match self.descend(right) {
                 Some(part) => self.step(left, part),

@@ -42,6 +42,7 @@ impl ShelfStrip<'_> {
             shelf: self.shelf,
             side,
         };
+        // By steps as long as the rows decide, which no iterator gives.
         let mut agreed = 0;
         while agreed < room {
             let left = Cursor::at(self.number, len, i + agreed);
@@ -75,9 +76,10 @@ impl Keeper for ShelfStrip<'_> {
         if i > len || j > len {
             return None;
         }
-        Some(match side {
-            Side::Ahead => self.agreeing(Side::Ahead, i, j),
-            Side::Behind => self.agreeing(Side::Behind, len - i, len - j),
-        })
+        let (i, j) = match side {
+            Side::Ahead => (i, j),
+            Side::Behind => (len - i, len - j),
+        };
+        Some(self.agreeing(side, i, j))
     }
 }
