@@ -24,6 +24,7 @@ impl<'a> LooseStrip<'a> {
 }
 
 // The first codes, so many of them or, where there are fewer, all.
+#[tactic(auto, using(periodicity::proofs::Agreements::take_min))]
 fn first_codes(codes: &[u32], most: usize) -> &[u32]
     ensures front { result.now ≡ take most codes.now }
     ensures few { length result.now ≤ most }

@@ -13,6 +13,7 @@ pub struct Reversed<K> {
 
 impl<K: Keeper> Reversed<K> {
     // How many codes there are, below as in the layer.
+    #[tactic(auto, using(crate::proofs::Layers::reversed_answers))]
     fn count(&self) -> usize
         ensures { ReversedAnswers (K.Keeper.codes self.now.below) result }
     {

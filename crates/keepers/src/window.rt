@@ -26,6 +26,7 @@ fn at_most(room: usize, answer: Option<usize>) -> Option<usize>
 
 impl<K: Keeper> Window<K> {
     // The fragment of what is below that the window shows.
+    #[tactic(auto, using(crate::proofs::Layers::window_answers))]
     fn shown(&self) -> Fragment
         ensures { WindowAnswers (K.Keeper.codes self.now.below) self.now.part.start self.now.part.length result }
     {
