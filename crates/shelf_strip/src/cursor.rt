@@ -118,6 +118,7 @@ impl View<'_> {
 
     // How many codes from two cursors on are known to agree at once: none only where the first ones differ. The
     // cursor with the greater number goes down, until both stand at the same place of one number's strip.
+    #[tactic(auto, using(crate::proofs::StepFacts::steps_same, crate::proofs::StepFacts::apart_right, crate::proofs::StepFacts::apart_left))]
     pub(crate) fn step(&self, left: Cursor, right: Cursor) -> usize
         requires left { Stands self.now.side (rows_on self.now.shelf.now) left }
         requires right { Stands self.now.side (rows_on self.now.shelf.now) right }

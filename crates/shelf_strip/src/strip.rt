@@ -20,6 +20,7 @@ pub struct ShelfStrip<'a> {
 }
 
 impl<'a> ShelfStrip<'a> {
+    #[tactic(auto, using(rows::proofs::LawfulFacts::strip_short))]
     pub fn new(shelf: &'a Shelf, number: u16) -> Self
         ensures shelf { result.shelf.now ≡ shelf.now }
         ensures number { result.number ≡ number }
