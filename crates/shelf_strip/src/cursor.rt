@@ -90,6 +90,7 @@ pub(crate) struct View<'a> {
 
 impl View<'_> {
     // The cursor, moved down into the part under its place; none for a leaf.
+    #[tactic(auto, using(crate::proofs::CursorFacts::shape_read, crate::proofs::CursorFacts::row_there))]
     fn descend(&self, cursor: Cursor) -> Option<Cursor>
         requires { Stands self.now.side (rows_on self.now.shelf.now) cursor }
         ensures { Descends self.now.side (rows_on self.now.shelf.now) cursor result }

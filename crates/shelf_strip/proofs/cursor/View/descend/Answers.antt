@@ -9,10 +9,6 @@ use Rattle.shelf_strip.proofs.CursorFacts.{shape_read, row_there, pair_lengths, 
 use Rattle.shelf_strip.proofs.SeenFacts.{length_seen}
 use Rattle.shelf_strip.proofs.cursor.View.descend.Goals as goal
 
-pub returns-in_err-row : goal.returns-in_err-row
-returns-in_err-row c =
-    absurd (row_there c.args.self.now.side (rows_on c.args.self.now.shelf.now) c.args.self.now.shelf.now.lawful c.args.cursor c.requires c.in_err-row.ensures)
-
 pub in_pair-requires : goal.in_pair-requires
 in_pair-requires c =
     let rows = rows_on c.args.self.now.shelf.now in
@@ -31,10 +27,6 @@ in_copies-requires c =
     let some = copy_some c.args.self.now.side rows c.args.self.now.shelf.now.lawful c.args.cursor c.requires c.in-Repeat.part c.in-Repeat.times is in
     let long = length_seen c.args.self.now.side rows c.args.cursor.number in
     record { some = omega (arith, c.strip_length-in-Repeat.ensures); within = omega (arith, c.strip_length-in-Repeat-2.ensures, c.requires.within) }
-
-pub returns-in-Leaf : goal.returns-in-Leaf
-returns-in-Leaf c =
-    (c.in-Leaf.code, shape_read (rows_on c.args.self.now.shelf.now) c.args.cursor.number c.in_ok-row.row (Leaf c.in-Leaf.code) c.in_ok-row.ensures c.in-Leaf.is)
 
 pub returns-in-Pair : goal.returns-in-Pair
 returns-in-Pair c =
