@@ -119,15 +119,14 @@ unfolding lines_of
 no_line [] h = refl
 no_line (b ∷ bs) h = absurd (omega arith)
 
-pub first_line : (bs : List ℕ) (size : ℕ) → size ≡ prefix_len inside bs → size ≤ length bs → (size ≡ length bs → ⊥) → CutOff lines_of bs (take (size - 0) bs) (take (length bs - (size + 1)) (drop (size + 1) bs))
+pub first_line : (bs : List ℕ) (size : ℕ) → size ≡ prefix_len inside bs → size ≤ length bs → (size ≡ length bs → ⊥) → CutOff lines_of bs (take size bs) (take (length bs - (size + 1)) (drop (size + 1) bs))
 unfolding lines_of
 first_line bs size e within some =
     let left = length-drop (size + 1) bs in
     let back = take_rest bs (size + 1) in
-    let front : size - 0 ≡ prefix_len inside bs = omega arith in
     let next : size + 1 ≡ suc (prefix_len inside bs) = omega arith in
     record {
-      pieces = lines_cut [] bs (omega arith) ∙ (λ i. take (sym front i) bs ∷ lines_after [] ((sym (ap (λ n. drop n bs) next) ∙ sym back) i));
+      pieces = lines_cut [] bs (omega arith) ∙ (λ i. take (sym e i) bs ∷ lines_after [] ((sym (ap (λ n. drop n bs) next) ∙ sym back) i));
       shorter = rw back (omega arith);
     }
 

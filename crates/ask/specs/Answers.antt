@@ -4,6 +4,7 @@ use Rattle.periodicity.specs.declared.Fragment.{Fragment}
 use Rattle.periodicity.specs.declared.Progression.{Progression}
 use Rattle.periodicity.specs.Fragments.{cut}
 use Rattle.periodicity.specs.Periods.{written_records}
+use Rattle.periodicity.specs.Progressions.{triple_text}
 use Rattle.questions.specs.Outcomes.{Outcome, answered, refused, outcome, checked, places_outcome, overlaps_outcome, periods_check}
 use Rattle.ask.specs.declared.answer.Answer.{Answer}
 use Rattle.ask.specs.declared.answer.Answer.TheVariants as answer
@@ -44,10 +45,6 @@ turned false xs = xs
 
 abbrev pub seen_through : Layers → List ℕ → List ℕ
 seen_through layers xs = turned layers.reversed (windowed layers.window xs)
-
--- a first number, a step and a count
-abbrev pub triple_text : Progression → List ℕ
-triple_text p = decimal p.first ++ (ascii " " ++ (decimal p.step ++ (ascii " " ++ decimal p.count)))
 
 -- the records in use, the first of them after `before` and the others after a slash
 abbrev pub records_after : List ℕ → List Progression → List ℕ

@@ -4,7 +4,7 @@ ghost use Rattle.std.specs.Prelude.{◌≡◌, ℕ, List, ◌++◌, Some, codes 
 ghost use Rattle.std.specs.Fmt.{WritesOnOk};
 ghost use Rattle.questions.specs.Outcomes.{outcome};
 ghost use Rattle.ask.specs.Answers.{Reply, periods_outcome, reply_to, reply_of, seen_through, turned};
-ghost use Rattle.ask.specs.Answers.{records_after, records_text, triple_text, found_text, reply_text};
+ghost use Rattle.ask.specs.Answers.{records_after, records_text, found_text, reply_text};
 
 use crate::question::{Layers, Question};
 use keepers::{Keeper, Reversed, Window};
@@ -99,21 +99,11 @@ pub fn ask<K: Keeper>(keeper: &K, question: Question) -> Answer
 pub fn ask_through<K: Keeper>(keeper: &K, layers: Layers, question: Question) -> Answer
     ensures { reply_of result ≡ reply_to question (seen_through layers (K.codes keeper.now)) }
 {
-    let asking = question;
-    Through { layers, asking }.ask(keeper)
-}
-
-// A progression as its first number, its step and its count.
-#[derive(Clone, Copy)]
-struct Triple(Progression);
-
-impl fmt::Display for Triple {
-    ghost output = { λ triple. Some (triple_text triple.0) };
-
-    fn fmt<W: fmt::Write>(&self, f: &mut fmt::Formatter<W>) -> fmt::Result {
-        let Triple(p) = self;
-        write!(f, "{} {} {}", p.first, p.step, p.count)
+    Through {
+        layers,
+        asking: question,
     }
+    .ask(keeper)
 }
 
 // The name of a question, and what was found or why it is refused.
@@ -125,7 +115,7 @@ pub fn write_found<W: fmt::Write>(
     ensures { WritesOnOk W.Write.write_str_gives f.old result (name.now ++ found_text (outcome found)) f.new }
 {
     match found {
-        Ok(Some(p)) => write!(f, "{name} {}", Triple(p)),
+        Ok(Some(p)) => write!(f, "{name} {p}"),
         Ok(None) => write!(f, "{name} none"),
         Err(refusal) => write!(f, "{name} refused {}", refusal.number()),
     }
@@ -142,7 +132,7 @@ fn write_records<W: fmt::Write>(
     let mut before = " ";
     for record in records.iter() {
         if record.count > 0 {
-            write!(f, "{before}{}", Triple(*record))?;
+            write!(f, "{before}{record}")?;
             before = " / ";
         }
     }

@@ -58,7 +58,7 @@ fn next_line(text: &[u8]) -> Option<(&[u8], &[u8])>
     if size == text.len() {
         return Some(text.split_at(size));
     }
-    Some((&text[0..size], &text[size + 1..]))
+    Some((&text[..size], &text[size + 1..]))
 }
 
 // The words that are left of a line.
