@@ -52,13 +52,21 @@ records_after before [] = []
 records_after before (r ∷ rs) =
     cond (r.count == 0) (records_after before rs) (before ++ (triple_text r ++ records_after (ascii " / ") rs))
 
+-- how a refusal is shown, and what was found: three numbers, or `none`
+abbrev pub refused_shown : ℕ → List ℕ
+refused_shown number = ascii "refused " ++ decimal number
+
+abbrev pub found_shown : Outcome (Option Progression) → List ℕ
+found_shown (answered None) = ascii "none"
+found_shown (answered (Some p)) = triple_text p
+found_shown (refused number) = refused_shown number
+
+-- the same after a space
 abbrev pub refused_text : ℕ → List ℕ
-refused_text number = ascii " refused " ++ decimal number
+refused_text number = ascii " " ++ refused_shown number
 
 abbrev pub found_text : Outcome (Option Progression) → List ℕ
-found_text (answered None) = ascii " none"
-found_text (answered (Some p)) = ascii " " ++ triple_text p
-found_text (refused number) = refused_text number
+found_text found = ascii " " ++ found_shown found
 
 abbrev pub records_text : Outcome (List Progression) → List ℕ
 records_text (answered records) = records_after (ascii " ") records

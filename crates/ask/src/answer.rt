@@ -4,7 +4,7 @@ ghost use Rattle.std.specs.Prelude.{◌≡◌, ℕ, List, ◌++◌, Some, codes 
 ghost use Rattle.std.specs.Fmt.{WritesOnOk};
 ghost use Rattle.questions.specs.Outcomes.{outcome};
 ghost use Rattle.ask.specs.Answers.{Reply, periods_outcome, reply_to, reply_of, seen_through, turned};
-ghost use Rattle.ask.specs.Answers.{records_after, records_text, found_text, reply_text};
+ghost use Rattle.ask.specs.Answers.{records_after, found_shown, reply_text};
 
 use crate::question::{Layers, Question};
 use keepers::{Keeper, Reversed, Window};
@@ -106,18 +106,19 @@ pub fn ask_through<K: Keeper>(keeper: &K, layers: Layers, question: Question) ->
     .ask(keeper)
 }
 
-// The name of a question, and what was found or why it is refused.
-pub fn write_found<W: fmt::Write>(
-    f: &mut fmt::Formatter<W>,
-    name: &str,
-    found: Result<Option<Progression>, Refusal>,
-) -> fmt::Result
-    ensures { WritesOnOk W.Write.write_str_gives f.old result (name.now ++ found_text (outcome found)) f.new }
-{
-    match found {
-        Ok(Some(p)) => write!(f, "{name} {p}"),
-        Ok(None) => write!(f, "{name} none"),
-        Err(refusal) => write!(f, "{name} refused {}", refusal.number()),
+// What was found, as an answer shows it: three numbers, or that there is nothing, or why the question is refused.
+#[derive(Clone, Copy)]
+pub struct Found(pub Result<Option<Progression>, Refusal>);
+
+impl fmt::Display for Found {
+    ghost output = { λ found. Some (found_shown (outcome found.0)) };
+
+    fn fmt<W: fmt::Write>(&self, f: &mut fmt::Formatter<W>) -> fmt::Result {
+        match self.0 {
+            Ok(Some(p)) => write!(f, "{p}"),
+            Ok(None) => write!(f, "none"),
+            Err(refusal) => write!(f, "refused {}", refusal.number()),
+        }
     }
 }
 
@@ -139,29 +140,18 @@ fn write_records<W: fmt::Write>(
     Ok(())
 }
 
-fn write_periods<W: fmt::Write>(
-    f: &mut fmt::Formatter<W>,
-    found: Result<[Progression; RECORDS], Refusal>,
-) -> fmt::Result
-    ensures { WritesOnOk W.Write.write_str_gives f.old result (ascii "periods" ++ records_text (outcome found)) f.new }
-{
-    match found {
-        Ok(records) => {
-            f.write_str("periods")?;
-            write_records(f, records)
-        }
-        Err(refusal) => write!(f, "periods refused {}", refusal.number()),
-    }
-}
-
 impl fmt::Display for Answer {
     ghost output = { λ answer. Some (reply_text (reply_of answer)) };
 
     fn fmt<W: fmt::Write>(&self, f: &mut fmt::Formatter<W>) -> fmt::Result {
         match *self {
-            Answer::Places(found) => write_found(f, "places", found),
-            Answer::Overlaps(found) => write_found(f, "overlaps", found),
-            Answer::Periods(found) => write_periods(f, found),
+            Answer::Places(found) => write!(f, "places {}", Found(found)),
+            Answer::Overlaps(found) => write!(f, "overlaps {}", Found(found)),
+            Answer::Periods(Ok(records)) => {
+                f.write_str("periods")?;
+                write_records(f, records)
+            }
+            Answer::Periods(Err(refusal)) => write!(f, "periods refused {}", refusal.number()),
         }
     }
 }
