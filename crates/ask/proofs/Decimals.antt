@@ -1,5 +1,5 @@
 -- A word of digits is read as a number. Assumes nothing.
-use Rattle.std.proofs.Common.{◌≡◌, ℕ, zero, suc, ◌+◌, ◌-◌, ◌*◌, ◌^◌, ◌<◌, ◌≤◌, true, false, cond, ◌&&◌, ltb, List, [], ◌∷◌, length, get_or, Some, None, Option, sym, refl, ap, ◌∙◌, arith}
+use Rattle.std.proofs.Common.{◌≡◌, ℕ, zero, suc, ◌^◌, ◌<◌, ◌≤◌, true, false, ◌&&◌, List, [], ◌∷◌, length, Some, None, sym, refl, ap, ◌∙◌, arith}
 use Rattle.std.specs.Char.{is_ascii_digit}
 use Rattle.std.specs.List.{list_all}
 use Rattle.std.specs.Str.{all_ascii_digits, IsAscii, IsUtf8}
@@ -14,7 +14,7 @@ use Rattle.ask.specs.Numbers.{value_after, number_below}
 
 -- the number that digits write is the library's
 digits : IsNumeralModel (λ bs. all_ascii_digits bs ≡ true) (value_after 0)
-digits = numerals_by_fold _ tells_all_ascii_digits value_after record { empty = λ n. refl; more = λ n c cs is. refl; }
+digits = numerals_by_fold _ tells_all_ascii_digits value_after record { empty = λ n. refl; more = λ n c cs is. refl }
 
 -- a word of digits is a text
 pub all_digits : (bs : List ℕ) → list_all is_ascii_digit bs ≡ all_ascii_digits bs

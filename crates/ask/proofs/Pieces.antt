@@ -1,7 +1,7 @@
 -- What stands in front of the first blank or newline is the first piece. Assumes nothing.
 use Rattle.std.proofs.Common.{◌≡◌, ℕ, suc, ◌+◌, ◌-◌, ◌<◌, ◌≤◌, Bool, true, false, not, cond, ltb, Some, None, List, [], ◌∷◌, ◌++◌, length, take, drop, sym, refl, ap, ◌∙◌, subst₂, append_assoc, append-nil, one-add, arith, length-drop, length-take-le}
 use Rattle.std.specs.List.{prefix_len, position_or_len, position}
-use Rattle.std.proofs.lemmas.List.{take_rest, take_all, drop_all}
+use Rattle.std.proofs.lemmas.List.{take_rest, drop_all}
 use Rattle.std.proofs.lemmas.List.Sums.{prefix_len-le-length}
 use Rattle.std.proofs.lemmas.Bool.{cond-true, cond-false, ltb-true, ltb-false, not_from_true, not_from_false}
 use Rattle.ask.specs.Words.{is_blank, is_newline, ended, words_after, words_of, lines_after, lines_of, CutOff}

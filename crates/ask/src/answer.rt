@@ -122,7 +122,8 @@ impl fmt::Display for Found {
     }
 }
 
-// The records in use, parted by slashes.
+// The records in use, parted by slashes. By the rules a record that is not in use is three zeros. The slash
+// stands between records, so the first has another mark before it.
 #[tactic(auto, using(crate::proofs::Records::recording))]
 fn write_records<W: fmt::Write>(
     f: &mut fmt::Formatter<W>,
@@ -151,7 +152,7 @@ impl fmt::Display for Answer {
                 f.write_str("periods")?;
                 write_records(f, records)
             }
-            Answer::Periods(Err(refusal)) => write!(f, "periods refused {}", refusal.number()),
+            Answer::Periods(Err(refusal)) => write!(f, "periods {}", Found(Err(refusal))),
         }
     }
 }

@@ -17,10 +17,7 @@ fn next_word(line: &[u8]) -> Option<(&[u8], &[u8])>
 {
     let start = line.iter().position(|byte| !is_blank(*byte))?;
     let line = &line[start..];
-    let size = line
-        .iter()
-        .take_while(|byte| !is_blank(**byte))
-        .count();
+    let size = line.iter().take_while(|byte| !is_blank(**byte)).count();
     Some(line.split_at(size))
 }
 
@@ -66,7 +63,8 @@ impl<'a> Iterator for Words<'a> {
     }
 }
 
-// The lines that are left of a text.
+// The lines that are left of a text. Beside `Words`, since one type for both would need a trait for the cut with
+// two impls, and is no shorter.
 #[derive(Clone, Copy)]
 pub(crate) struct Lines<'a> {
     rest: &'a [u8],

@@ -20,5 +20,5 @@ returns c =
     let at = position_from_yields_List visible _ _ c.position.result c.position.ensures.ran (YieldsList-from_slice c.args.line.now cc) (λ x b q k. search (rules, tests)) in
     let shown = take (length c.args.line.now - c.in_ok-start.start) (drop c.in_ok-start.start c.args.line.now) in
     let size : c.count-size.result ≡ length (take (prefix_len visible shown) shown) =
-        count_from_yields_List c.take_while.result _ c.count-size.ensures.ran (YieldsList-from_take_while _ visible (YieldsList-at c.take_while.ensures.source (YieldsList-from_slice shown cc)) c.take_while.ensures.closure c.take_while.ensures.done (λ x b q k. search (rules, tests))) in
+    count_from_yields_List c.take_while.result _ c.count-size.ensures.ran (YieldsList-from_take_while _ visible (YieldsList-at c.take_while.ensures.source (YieldsList-from_slice shown cc)) c.take_while.ensures.closure c.take_while.ensures.done (λ x b q k. search (rules, tests))) in
     first_word c.args.line.now c.in_ok-start.start c.count-size.result _ _ (sym at ∙ c.in_ok-start.was) (size ∙ length-prefix_len visible shown) c.split_at.ensures.front c.split_at.ensures.back
