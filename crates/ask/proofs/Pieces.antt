@@ -1,9 +1,9 @@
 -- What stands in front of the first blank or newline is the first piece. Assumes nothing.
-use Rattle.std.proofs.Common.{◌≡◌, ℕ, suc, ◌+◌, ◌-◌, ◌<◌, ◌≤◌, Bool, true, false, not, List, [], ◌∷◌, ◌++◌, length, take, drop, sym, refl, ap, ◌∙◌, subst₂, append_assoc, append-nil, one-add, arith, length-drop, length-take-le}
-use Rattle.std.specs.List.{prefix_len}
-use Rattle.std.proofs.lemmas.List.{take_rest, take_all, drop_all}
+use Rattle.std.proofs.Common.{◌≡◌, ℕ, suc, ◌+◌, ◌-◌, ◌<◌, ◌≤◌, Bool, true, false, not, cond, ltb, Some, None, List, [], ◌∷◌, ◌++◌, length, take, drop, sym, refl, ap, ◌∙◌, subst₂, append_assoc, append-nil, one-add, arith, length-drop, length-take-le}
+use Rattle.std.specs.List.{prefix_len, position_or_len, position}
+use Rattle.std.proofs.lemmas.List.{take_rest, drop_all}
 use Rattle.std.proofs.lemmas.List.Sums.{prefix_len-le-length}
-use Rattle.std.proofs.lemmas.Bool.{cond-true, cond-false, not_from_true, not_from_false}
+use Rattle.std.proofs.lemmas.Bool.{cond-true, cond-false, ltb-true, ltb-false, not_from_true, not_from_false}
 use Rattle.ask.specs.Words.{is_blank, is_newline, ended, words_after, words_of, lines_after, lines_of, CutOff}
 
 -- how many bytes pass at the front, by the first of them
@@ -66,10 +66,35 @@ ended_some (b ∷ bs) pieces h = refl
 unblanked : (bs : List ℕ) (start : ℕ) → start ≡ prefix_len is_blank bs → take (length bs - start) (drop start bs) ≡ drop (prefix_len is_blank bs) bs
 unblanked bs start e = take_rest bs start ∙ ap (λ n. drop n bs) e
 
-pub no_word : (bs : List ℕ) (start size : ℕ) → start ≡ prefix_len is_blank bs → size ≡ prefix_len visible (take (length bs - start) (drop start bs)) → size ≡ 0 → words_of bs ≡ []
+-- where a place was found, and where none was
+place_some : (n len place : ℕ) → cond (ltb n len) (Some n) None ≡ Some place → (place ≡ n) × (n < len)
+place_some n len place is = by (ltb n len) refl is
+  where
+    by : (b : Bool) → ltb n len ≡ b → cond b (Some n) None ≡ Some place → (place ≡ n) × (n < len)
+    by true less found = (cc, ltb-true n len less)
+    by false more found = cc
+
+place_none : (n len : ℕ) → cond (ltb n len) (Some n) None ≡ None → len ≤ n
+place_none n len is = by (ltb n len) refl is
+  where
+    by : (b : Bool) → ltb n len ≡ b → cond b (Some n) None ≡ None → len ≤ n
+    by true less none = cc
+    by false more none = ltb-false n len more
+
+-- the first byte of a word stands behind the blanks in front
+twice : (t : Bool) (m n : ℕ) → cond (not (not t)) m n ≡ cond t m n
+twice true m n = refl
+twice false m n = refl
+
+first_visible : (bs : List ℕ) → position_or_len visible bs ≡ prefix_len is_blank bs
+first_visible [] = refl
+first_visible (b ∷ bs) = twice (is_blank b) _ _ ∙ ap (λ n. cond (is_blank b) (1 + n) 0) (first_visible bs)
+
+pub no_word : (bs : List ℕ) → position visible bs ≡ None → words_of bs ≡ []
 unfolding words_of
-no_word bs start size e long none =
-    words_skip bs ∙ ap (words_after []) (none_behind bs (sym (ap (prefix_len visible) (unblanked bs start e)) ∙ sym long ∙ none))
+no_word bs none =
+    let past = place_none (position_or_len visible bs) (length bs) none in
+    words_skip bs ∙ ap (words_after []) (drop_all (prefix_len is_blank bs) bs (omega (arith, first_visible bs)))
 
 word_at : (bs rest : List ℕ) → rest ≡ drop (prefix_len is_blank bs) bs → 0 < prefix_len visible rest → CutOff words_of bs (take (prefix_len visible rest) rest) (drop (prefix_len visible rest) rest)
 unfolding words_of
@@ -83,10 +108,18 @@ word_at bs rest e some =
       shorter = omega arith;
     }
 
-pub first_word : (bs : List ℕ) (start size : ℕ) (word rest : List ℕ) → start ≡ prefix_len is_blank bs → size ≡ prefix_len visible (take (length bs - start) (drop start bs)) → (size ≡ 0 → ⊥) → word ≡ take size (take (length bs - start) (drop start bs)) → rest ≡ drop size (take (length bs - start) (drop start bs)) → CutOff words_of bs word rest
-first_word bs start size word rest e long some front back =
+positive : (n : ℕ) → (n ≡ 0 → ⊥) → 0 < n
+positive n some = omega arith
+
+pub first_word : (bs : List ℕ) (start size : ℕ) (word rest : List ℕ) → position visible bs ≡ Some start → size ≡ prefix_len visible (take (length bs - start) (drop start bs)) → word ≡ take size (take (length bs - start) (drop start bs)) → rest ≡ drop size (take (length bs - start) (drop start bs)) → CutOff words_of bs word rest
+first_word bs start size word rest is long front back =
+    let at = place_some (position_or_len visible bs) (length bs) start is in
     let shown = take (length bs - start) (drop start bs) in
-    let found = word_at bs shown (unblanked bs start e) (omega arith) in
+    let behind = unblanked bs start (at.0 ∙ first_visible bs) in
+    let left = ap length behind ∙ length-drop (prefix_len is_blank bs) bs in
+    let none : prefix_len visible shown ≡ 0 → length shown ≡ 0 = λ e. ap length behind ∙ ap length (none_behind bs (sym (ap (prefix_len visible) behind) ∙ e)) in
+    let some : 0 < prefix_len visible shown = positive (prefix_len visible shown) (λ e. omega (arith, none e, left, at, first_visible bs)) in
+    let found = word_at bs shown behind some in
     subst₂ (CutOff words_of bs) (sym (front ∙ ap (λ n. take n shown) long)) (sym (back ∙ ap (λ n. drop n shown) long)) found
 
 -- what stands before the first newline is the line that has begun; where there is none, it is all that is left
@@ -119,26 +152,24 @@ unfolding lines_of
 no_line [] h = refl
 no_line (b ∷ bs) h = absurd (omega arith)
 
-pub first_line : (bs : List ℕ) (size : ℕ) → size ≡ prefix_len inside bs → size ≤ length bs → (size ≡ length bs → ⊥) → CutOff lines_of bs (take (size - 0) bs) (take (length bs - (size + 1)) (drop (size + 1) bs))
+pub first_line : (bs : List ℕ) (size : ℕ) → position is_newline bs ≡ Some size → CutOff lines_of bs (take size bs) (take (length bs - (size + 1)) (drop (size + 1) bs))
 unfolding lines_of
-first_line bs size e within some =
+first_line bs size is =
+    let at = place_some (prefix_len inside bs) (length bs) size is in
     let left = length-drop (size + 1) bs in
     let back = take_rest bs (size + 1) in
-    let front : size - 0 ≡ prefix_len inside bs = omega arith in
-    let next : size + 1 ≡ suc (prefix_len inside bs) = omega arith in
+    let next : size + 1 ≡ suc (prefix_len inside bs) = omega (arith, at.0) in
     record {
-      pieces = lines_cut [] bs (omega arith) ∙ (λ i. take (sym front i) bs ∷ lines_after [] ((sym (ap (λ n. drop n bs) next) ∙ sym back) i));
-      shorter = rw back (omega arith);
+      pieces = lines_cut [] bs at.1 ∙ (λ i. take (sym at.0 i) bs ∷ lines_after [] ((sym (ap (λ n. drop n bs) next) ∙ sym back) i));
+      shorter = rw back (omega (arith, at));
     }
 
-pub last_line : (bs : List ℕ) (size : ℕ) (line rest : List ℕ) → (length bs ≡ 0 → ⊥) → size ≡ prefix_len inside bs → size ≡ length bs → line ≡ take size bs → rest ≡ drop size bs → CutOff lines_of bs line rest
+pub last_line : (bs : List ℕ) → (length bs ≡ 0 → ⊥) → position is_newline bs ≡ None → CutOff lines_of bs bs []
 unfolding lines_of
-last_line bs size line rest some e whole front back =
-    let all : line ≡ bs = front ∙ take_all size bs (omega arith) in
-    let none : rest ≡ [] = back ∙ drop_all size bs (omega arith) in
+last_line bs some is =
+    let past = place_none (prefix_len inside bs) (length bs) is in
+    let within = prefix_len-le-length inside bs in
     record {
-      pieces = lines_end [] bs (sym e ∙ whole) ∙ ended_some bs [] (omega arith) ∙ (λ i. sym all i ∷ lines_after [] (sym none i));
-      shorter = rw none (omega arith);
+      pieces = lines_end [] bs (omega arith) ∙ ended_some bs [] (omega arith);
+      shorter = omega arith;
     }
-
-pub ruleset first_lines = (no_line, first_line, last_line)

@@ -6,8 +6,8 @@ use Rattle.std.proofs.Output.{writes_in_calls_nil, has_written_append, has_writt
 use Rattle.std.proofs.lemmas.List.{at_drop_more, at_drop_all}
 use Rattle.std.proofs.lemmas.Bool.{cond-true, cond-false, eq-eqb, ne_eqb}
 use Rattle.periodicity.specs.declared.Progression.{Progression}
-use Rattle.periodicity.specs.Progressions.{triple}
-use Rattle.ask.specs.Answers.{triple_text, records_after}
+use Rattle.periodicity.specs.Progressions.{triple, triple_text}
+use Rattle.ask.specs.Answers.{records_after}
 
 module _ {W : Type 0} (took : W → List ℕ → W → Type 0) where
   -- from f to h the text `done` was written, and with the records that are left it is the text of all

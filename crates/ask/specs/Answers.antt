@@ -4,6 +4,7 @@ use Rattle.periodicity.specs.declared.Fragment.{Fragment}
 use Rattle.periodicity.specs.declared.Progression.{Progression}
 use Rattle.periodicity.specs.Fragments.{cut}
 use Rattle.periodicity.specs.Periods.{written_records}
+use Rattle.periodicity.specs.Progressions.{triple_text}
 use Rattle.questions.specs.Outcomes.{Outcome, answered, refused, outcome, checked, places_outcome, overlaps_outcome, periods_check}
 use Rattle.ask.specs.declared.answer.Answer.{Answer}
 use Rattle.ask.specs.declared.answer.Answer.TheVariants as answer
@@ -45,23 +46,27 @@ turned false xs = xs
 abbrev pub seen_through : Layers → List ℕ → List ℕ
 seen_through layers xs = turned layers.reversed (windowed layers.window xs)
 
--- a first number, a step and a count
-abbrev pub triple_text : Progression → List ℕ
-triple_text p = decimal p.first ++ (ascii " " ++ (decimal p.step ++ (ascii " " ++ decimal p.count)))
-
 -- the records in use, the first of them after `before` and the others after a slash
 abbrev pub records_after : List ℕ → List Progression → List ℕ
 records_after before [] = []
 records_after before (r ∷ rs) =
     cond (r.count == 0) (records_after before rs) (before ++ (triple_text r ++ records_after (ascii " / ") rs))
 
+-- how a refusal is shown, and what was found: three numbers, or `none`
+abbrev pub refused_shown : ℕ → List ℕ
+refused_shown number = ascii "refused " ++ decimal number
+
+abbrev pub found_shown : Outcome (Option Progression) → List ℕ
+found_shown (answered None) = ascii "none"
+found_shown (answered (Some p)) = triple_text p
+found_shown (refused number) = refused_shown number
+
+-- the same after a space
 abbrev pub refused_text : ℕ → List ℕ
-refused_text number = ascii " refused " ++ decimal number
+refused_text number = ascii " " ++ refused_shown number
 
 abbrev pub found_text : Outcome (Option Progression) → List ℕ
-found_text (answered None) = ascii " none"
-found_text (answered (Some p)) = ascii " " ++ triple_text p
-found_text (refused number) = refused_text number
+found_text found = ascii " " ++ found_shown found
 
 abbrev pub records_text : Outcome (List Progression) → List ℕ
 records_text (answered records) = records_after (ascii " ") records

@@ -1,11 +1,9 @@
 -- The lines of a text and the words of a line. Assumes nothing.
-use Rattle.std.specs.Prelude.{◌≡◌, ℕ, ◌<◌, Bool, true, false, cond, not, ◌||◌, List, [], ◌∷◌, ◌++◌, length, Some, None, Option, ◌==◌}
+use Rattle.std.specs.Prelude.{◌≡◌, ℕ, ◌<◌, Bool, true, false, cond, ◌||◌, List, [], ◌∷◌, ◌++◌, length, Some, None, Option, ◌==◌}
 use Rattle.std.specs.Borrow.{Bor}
 use Rattle.std.specs.Str.{bytes_eq}
 use Rattle.ask.specs.declared.words.Words.{Words}
 use Rattle.ask.specs.declared.words.Lines.{Lines}
-use Rattle.ask.specs.declared.words.Stretch.{Stretch}
-use Rattle.ask.specs.declared.words.Stretch.TheVariants.{Blanks, Word, Line}
 
 -- blanks part words: space, tab and carriage return
 abbrev pub is_blank : ℕ → Bool
@@ -54,12 +52,6 @@ words_left words = words_of words.rest.now
 
 abbrev pub lines_left : Lines → List (List ℕ)
 lines_left lines = lines_of lines.rest.now
-
--- the bytes that stand in a stretch
-abbrev pub in_stretch : Stretch → ℕ → Bool
-in_stretch Blanks b = is_blank b
-in_stretch Word b = not (is_blank b)
-in_stretch Line b = not (is_newline b)
 
 -- the first piece of a whole that is cut into pieces, and the rest, which is shorter
 pub record CutOff (pieces_of : List ℕ → List (List ℕ)) (whole piece rest : List ℕ) : Type 0 where

@@ -4,7 +4,7 @@ ghost use Rattle.std.specs.Prelude.{◌≡◌, ℕ, List, ◌++◌, Some, codes 
 ghost use Rattle.std.specs.Fmt.{WritesOnOk};
 ghost use Rattle.questions.specs.Outcomes.{outcome};
 ghost use Rattle.ask.specs.Answers.{Reply, periods_outcome, reply_to, reply_of, seen_through, turned};
-ghost use Rattle.ask.specs.Answers.{records_after, records_text, triple_text, found_text, reply_text};
+ghost use Rattle.ask.specs.Answers.{records_after, found_shown, reply_text};
 
 use crate::question::{Layers, Question};
 use keepers::{Keeper, Reversed, Window};
@@ -99,39 +99,31 @@ pub fn ask<K: Keeper>(keeper: &K, question: Question) -> Answer
 pub fn ask_through<K: Keeper>(keeper: &K, layers: Layers, question: Question) -> Answer
     ensures { reply_of result ≡ reply_to question (seen_through layers (K.codes keeper.now)) }
 {
-    let asking = question;
-    Through { layers, asking }.ask(keeper)
+    Through {
+        layers,
+        asking: question,
+    }
+    .ask(keeper)
 }
 
-// A progression as its first number, its step and its count.
+// What was found, as an answer shows it: three numbers, or that there is nothing, or why the question is refused.
 #[derive(Clone, Copy)]
-struct Triple(Progression);
+pub struct Found(pub Result<Option<Progression>, Refusal>);
 
-impl fmt::Display for Triple {
-    ghost output = { λ triple. Some (triple_text triple.0) };
+impl fmt::Display for Found {
+    ghost output = { λ found. Some (found_shown (outcome found.0)) };
 
     fn fmt<W: fmt::Write>(&self, f: &mut fmt::Formatter<W>) -> fmt::Result {
-        let Triple(p) = self;
-        write!(f, "{} {} {}", p.first, p.step, p.count)
+        match self.0 {
+            Ok(Some(p)) => write!(f, "{p}"),
+            Ok(None) => write!(f, "none"),
+            Err(refusal) => write!(f, "refused {}", refusal.number()),
+        }
     }
 }
 
-// The name of a question, and what was found or why it is refused.
-pub fn write_found<W: fmt::Write>(
-    f: &mut fmt::Formatter<W>,
-    name: &str,
-    found: Result<Option<Progression>, Refusal>,
-) -> fmt::Result
-    ensures { WritesOnOk W.Write.write_str_gives f.old result (name.now ++ found_text (outcome found)) f.new }
-{
-    match found {
-        Ok(Some(p)) => write!(f, "{name} {}", Triple(p)),
-        Ok(None) => write!(f, "{name} none"),
-        Err(refusal) => write!(f, "{name} refused {}", refusal.number()),
-    }
-}
-
-// The records in use, parted by slashes.
+// The records in use, parted by slashes. By the rules a record that is not in use is three zeros. The slash
+// stands between records, so the first has another mark before it.
 #[tactic(auto, using(crate::proofs::Records::recording))]
 fn write_records<W: fmt::Write>(
     f: &mut fmt::Formatter<W>,
@@ -142,26 +134,11 @@ fn write_records<W: fmt::Write>(
     let mut before = " ";
     for record in records.iter() {
         if record.count > 0 {
-            write!(f, "{before}{}", Triple(*record))?;
+            write!(f, "{before}{record}")?;
             before = " / ";
         }
     }
     Ok(())
-}
-
-fn write_periods<W: fmt::Write>(
-    f: &mut fmt::Formatter<W>,
-    found: Result<[Progression; RECORDS], Refusal>,
-) -> fmt::Result
-    ensures { WritesOnOk W.Write.write_str_gives f.old result (ascii "periods" ++ records_text (outcome found)) f.new }
-{
-    match found {
-        Ok(records) => {
-            f.write_str("periods")?;
-            write_records(f, records)
-        }
-        Err(refusal) => write!(f, "periods refused {}", refusal.number()),
-    }
 }
 
 impl fmt::Display for Answer {
@@ -169,9 +146,13 @@ impl fmt::Display for Answer {
 
     fn fmt<W: fmt::Write>(&self, f: &mut fmt::Formatter<W>) -> fmt::Result {
         match *self {
-            Answer::Places(found) => write_found(f, "places", found),
-            Answer::Overlaps(found) => write_found(f, "overlaps", found),
-            Answer::Periods(found) => write_periods(f, found),
+            Answer::Places(found) => write!(f, "places {}", Found(found)),
+            Answer::Overlaps(found) => write!(f, "overlaps {}", Found(found)),
+            Answer::Periods(Ok(records)) => {
+                f.write_str("periods")?;
+                write_records(f, records)
+            }
+            Answer::Periods(Err(refusal)) => write!(f, "periods {}", Found(Err(refusal))),
         }
     }
 }

@@ -3,7 +3,7 @@
 ghost use Rattle.std.specs.Prelude.{◌≡◌, IfOk, Some, vec_items};
 ghost use Rattle.std.specs.Option.{option_map};
 ghost use Rattle.ask.specs.Words.{words_left, named_front};
-ghost use Rattle.ask.specs.Lines.{front_of, at_end, number_front, fragment_front, window_front, layers_front, places_words};
+ghost use Rattle.ask.specs.Lines.{front_of, at_end, number_front, fragment_front, layers_front, places_words};
 ghost use Rattle.ask.specs.Lines.{overlaps_words, periods_words, question_words, question_line, codes_words, saying_of, said_by};
 
 use crate::number::{code, number};
@@ -55,23 +55,17 @@ impl Words<'_> {
         named
     }
 
-    // The window, if one is named; absent when `window` stands without a fragment.
-    fn window(&mut self) -> Option<Option<Fragment>>
-        ensures { front_of result self.new ≡ window_front (words_left self.old) }
-    {
-        if self.takes("window") {
-            self.fragment().map(Some)
-        } else {
-            Some(None)
-        }
-    }
-
-    // The layers, if any.
+    // The layers, if any; absent when `window` stands without a fragment.
     fn layers(&mut self) -> Option<Layers>
         ensures { front_of result self.new ≡ layers_front (words_left self.old) }
     {
+        let window = if self.takes("window") {
+            Some(self.fragment()?)
+        } else {
+            None
+        };
         Some(Layers {
-            window: self.window()?,
+            window,
             reversed: self.takes("reversed"),
         })
     }

@@ -15,8 +15,7 @@ fn printed(heap: Global, number: usize, strip: &[u32], line: &Line) -> Result<St
     ensures { IfOk result (λ text. string_bytes text ≡ printed_for number strip.now (said_by line.now)) }
 {
     match line {
-        Line::Nothing => Ok(String::new(heap)),
-        Line::Strip { .. } => Ok(String::new(heap)),
+        Line::Nothing | Line::Strip { .. } => Ok(String::new(heap)),
         Line::Question { layers, question } => {
             let answer = ask_through(&LooseStrip::new(strip), *layers, *question);
             format!(in heap; "{answer}\n")

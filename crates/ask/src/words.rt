@@ -1,64 +1,38 @@
 // The words of a line and the lines of a text, one by one.
 
 ghost use Rattle.std.specs.Prelude.{◌≡◌, ◌≤◌, length};
-ghost use Rattle.std.specs.List.{prefix_len};
 ghost use Rattle.std.specs.Iterator.{YieldsFirstRef, at_most};
-ghost use Rattle.ask.specs.Words.{words_left, lines_left, in_stretch, is_named, FirstWord, FirstLine};
+ghost use Rattle.ask.specs.Words.{words_left, lines_left, is_blank as blank, is_named, FirstWord, FirstLine};
 
-// Bytes of one sort that stand next to each other.
-#[derive(Clone, Copy)]
-enum Stretch {
-    Blanks,
-    Word,
-    Line,
-}
-
-impl Stretch {
-    fn has(self, byte: u8) -> bool
-        ensures { result ≡ in_stretch self byte }
-    {
-        match self {
-            Stretch::Blanks => matches!(byte, b' ' | b'\t' | b'\r'),
-            Stretch::Word => !matches!(byte, b' ' | b'\t' | b'\r'),
-            Stretch::Line => byte != b'\n',
-        }
-    }
-
-    // How many bytes at the front are of this sort.
-    fn length_in(self, bytes: &[u8]) -> usize
-        ensures value { result ≡ prefix_len (in_stretch self) bytes.now }
-        ensures within { result ≤ length bytes.now }
-    {
-        bytes.iter().take_while(|byte| self.has(**byte)).count()
-    }
+// Blanks part words.
+fn is_blank(byte: u8) -> bool
+    ensures { result ≡ blank byte }
+{
+    matches!(byte, b' ' | b'\t' | b'\r')
 }
 
 // The first word of a line and what follows it.
-#[tactic(auto, using(crate::proofs::Pieces::first_word))]
 fn next_word(line: &[u8]) -> Option<(&[u8], &[u8])>
     ensures { FirstWord line.now result }
 {
-    let line = &line[Stretch::Blanks.length_in(line)..];
-    let size = Stretch::Word.length_in(line);
-    if size == 0 {
-        return None;
-    }
+    let start = line.iter().position(|byte| !is_blank(*byte))?;
+    let line = &line[start..];
+    let size = line.iter().take_while(|byte| !is_blank(**byte)).count();
     Some(line.split_at(size))
 }
 
 // The first line of a text and what follows its newline; the last line may have none.
-#[tactic(auto, using(crate::proofs::Pieces::first_lines))]
+#[tactic(auto, using(crate::proofs::Pieces::no_line))]
 fn next_line(text: &[u8]) -> Option<(&[u8], &[u8])>
     ensures { FirstLine text.now result }
 {
     if text.is_empty() {
         return None;
     }
-    let size = Stretch::Line.length_in(text);
-    if size == text.len() {
-        return Some(text.split_at(size));
+    match text.iter().position(|byte| *byte == b'\n') {
+        Some(size) => Some((&text[..size], &text[size + 1..])),
+        None => Some((text, &[])),
     }
-    Some((&text[0..size], &text[size + 1..]))
 }
 
 // The words that are left of a line.
@@ -89,7 +63,8 @@ impl<'a> Iterator for Words<'a> {
     }
 }
 
-// The lines that are left of a text.
+// The lines that are left of a text. Beside `Words`, since one type for both would need a trait for the cut with
+// two impls, and is no shorter.
 #[derive(Clone, Copy)]
 pub(crate) struct Lines<'a> {
     rest: &'a [u8],

@@ -1,7 +1,7 @@
 -- What is written of a job. Assumes nothing.
 use Rattle.std.specs.Prelude.{◌≡◌, ℕ, true, List, [], ◌∷◌, ◌++◌, codes as ascii, decimal}
 use Rattle.std.specs.List.{flat_map}
-use Rattle.ask.specs.Answers.{refused_text, found_text}
+use Rattle.ask.specs.Answers.{refused_shown, found_text}
 use Rattle.cells.specs.Glyphs.{glyph_code, glyph_given}
 use Rattle.book.specs.Laws.{OneNumber}
 use Rattle.book.specs.Runs.{answers_of, strips_of}
@@ -21,11 +21,15 @@ told_in (line.Places r) = of_places (outcome r)
 told_in (line.Stopped place) = stopped place
 told_in line.TooLong = too_long
 
--- a number, or `refused` and the refusal's number, each after a space
+-- how an answer is shown: a number, or `refused` and the refusal's number
+abbrev pub answer_shown : Answer → List ℕ
+answer_shown (answered n) = decimal n
+answer_shown (refused number) = refused_shown number
+answer_shown (refused_at number place) = refused_shown number
+
+-- the same after a space
 abbrev pub answer_text : Answer → List ℕ
-answer_text (answered n) = ascii " " ++ decimal n
-answer_text (refused number) = refused_text number
-answer_text (refused_at number place) = refused_text number
+answer_text answer = ascii " " ++ answer_shown answer
 
 -- the text of a line: the letter and what was answered, or how the job ended
 unfoldable pub line_text : Told → List ℕ

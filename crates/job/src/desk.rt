@@ -1,4 +1,4 @@
-// The desk at which a job is run: a glyph shelf, and the tray.
+// The desk at which a job is run: a glyph shelf, the tray and the work area.
 
 ghost use Rattle.std.specs.Prelude.{◌≡◌, [], ◌∷◌, IfOk, OnOk};
 ghost use Rattle.job.specs.Commands.{command_of};
@@ -19,13 +19,14 @@ use std::alloc::{AllocError, Global};
 const MOST_GLYPHS: usize = 8192;
 
 // The places of the work area.
-pub(crate) const WORK_PLACES: usize = 8192;
+const WORK_PLACES: usize = 8192;
 
 // The shelf keeps glyphs, from the first command to the last.
 #[derive(Drop)]
 pub(crate) struct Desk {
     shelf: Shelf,
     tray: Vec<Glyph>,
+    work: [u16; WORK_PLACES],
     ghost of_glyphs: { shelf.kind ≡ 1 },
 }
 
@@ -39,6 +40,7 @@ impl Desk {
         Desk {
             shelf: Shelf::new::<Glyph>(),
             tray: Vec::new(heap),
+            work: [0; WORK_PLACES],
         }
     }
 
@@ -68,26 +70,26 @@ impl Desk {
     }
 
     // Takes the tray onto the shelf, and empties it, refused or not.
-    fn take(&mut self, work: &mut [u16; WORK_PLACES]) -> Line
+    fn take(&mut self) -> Line
         ensures { Does (standing_of self.old) Command.Take (told_in result ∷ []) (standing_of self.new) }
     {
-        let answer = self.shelf.take(self.tray.as_slice(), work);
+        let answer = self.shelf.take(self.tray.as_slice(), &mut self.work);
         self.tray.clear();
         Line::Take(answer)
     }
 
     // Joins the strips of two numbers.
-    fn join(&mut self, left: u16, right: u16, work: &mut [u16; WORK_PLACES]) -> Line
+    fn join(&mut self, left: u16, right: u16) -> Line
         ensures { Does (standing_of self.old) (Command.Join left right) (told_in result ∷ []) (standing_of self.new) }
     {
-        Line::Join(self.shelf.join(left, right, work))
+        Line::Join(self.shelf.join(left, right, &mut self.work))
     }
 
     // Cuts a part out of a number's strip.
-    fn cut(&mut self, number: u16, part: Fragment, work: &mut [u16; WORK_PLACES]) -> Line
+    fn cut(&mut self, number: u16, part: Fragment) -> Line
         ensures { Does (standing_of self.old) (Command.Cut number part) (told_in result ∷ []) (standing_of self.new) }
     {
-        Line::Cut(self.shelf.cut(number, part, work))
+        Line::Cut(self.shelf.cut(number, part, &mut self.work))
     }
 
     // Asks for the places of a pattern in a field of a number's strip. An unknown number stands for the empty strip.
@@ -98,11 +100,7 @@ impl Desk {
     }
 
     // Does a command: the line that it prints, if it prints one.
-    pub(crate) fn perform(
-        &mut self,
-        command: Command,
-        work: &mut [u16; WORK_PLACES],
-    ) -> Result<Option<Line>, AllocError>
+    pub(crate) fn perform(&mut self, command: Command) -> Result<Option<Line>, AllocError>
         ensures { IfOk result (λ line. Does (standing_of self.old) command (told_lines line) (standing_of self.new)) }
     {
         match command {
@@ -110,9 +108,9 @@ impl Desk {
                 self.put(number)?;
                 Ok(None)
             }
-            Command::Take => Ok(Some(self.take(work))),
-            Command::Join { left, right } => Ok(Some(self.join(left, right, work))),
-            Command::Cut { number, part } => Ok(Some(self.cut(number, part, work))),
+            Command::Take => Ok(Some(self.take())),
+            Command::Join { left, right } => Ok(Some(self.join(left, right))),
+            Command::Cut { number, part } => Ok(Some(self.cut(number, part))),
             Command::Places {
                 number,
                 pattern,

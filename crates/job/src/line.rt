@@ -1,11 +1,10 @@
 // The lines that a job prints.
 
-ghost use Rattle.std.specs.Prelude.{◌≡◌, ◌++◌, IfOk, Some, string_bytes};
-ghost use Rattle.std.specs.Fmt.{WritesOnOk};
+ghost use Rattle.std.specs.Prelude.{◌≡◌, IfOk, Some, string_bytes};
 ghost use Rattle.shelf.specs.Refusals.{told};
-ghost use Rattle.job.specs.Lines.{told_in, answer_text, line_text, line_bytes};
+ghost use Rattle.job.specs.Lines.{told_in, answer_shown, line_text, line_bytes};
 
-use ask::write_found;
+use ask::Found;
 use periodicity::Progression;
 use shelf::request::Answer;
 use std::alloc::{AllocError, Global};
@@ -28,17 +27,19 @@ pub enum Line {
     TooLong,
 }
 
-// A command's letter, and the number that it was answered or why it was refused.
-fn write_answer<W: fmt::Write>(
-    f: &mut fmt::Formatter<W>,
-    letter: &str,
-    answer: Answer,
-) -> fmt::Result
-    ensures { WritesOnOk W.Write.write_str_gives f.old result (letter.now ++ answer_text (told answer)) f.new }
-{
-    match answer {
-        Ok(number) => write!(f, "{letter} {number}"),
-        Err(refusal) => write!(f, "{letter} refused {}", refusal.number()),
+// What the shelf answered, as a line shows it: a number, or why the call is refused. Beside `Found`, since the
+// shelf has refusals of its own.
+#[derive(Clone, Copy)]
+struct Told(Answer);
+
+impl fmt::Display for Told {
+    ghost output = { λ t. Some (answer_shown (told t.0)) };
+
+    fn fmt<W: fmt::Write>(&self, f: &mut fmt::Formatter<W>) -> fmt::Result {
+        match self.0 {
+            Ok(number) => write!(f, "{number}"),
+            Err(refusal) => write!(f, "refused {}", refusal.number()),
+        }
     }
 }
 
@@ -48,10 +49,10 @@ impl fmt::Display for Line {
     #[tactic(auto, unfolding(crate::specs::Lines::line_text))]
     fn fmt<W: fmt::Write>(&self, f: &mut fmt::Formatter<W>) -> fmt::Result {
         match *self {
-            Line::Take(answer) => write_answer(f, "T", answer),
-            Line::Join(answer) => write_answer(f, "J", answer),
-            Line::Cut(answer) => write_answer(f, "K", answer),
-            Line::Places(found) => write_found(f, "F", found),
+            Line::Take(answer) => write!(f, "T {}", Told(answer)),
+            Line::Join(answer) => write!(f, "J {}", Told(answer)),
+            Line::Cut(answer) => write!(f, "K {}", Told(answer)),
+            Line::Places(found) => write!(f, "F {}", Found(found)),
             Line::Stopped { place } => write!(f, "job stopped at {place}"),
             Line::TooLong => write!(f, "job too long"),
         }

@@ -6,7 +6,7 @@ ghost use Rattle.job.specs.Commands.{entries};
 ghost use Rattle.job.specs.Lines.{told_in, line_bytes, printed_by, LawfulPrintout};
 ghost use Rattle.job.specs.Runs.{nothing_yet, told_from};
 
-use crate::desk::{Desk, WORK_PLACES};
+use crate::desk::Desk;
 use crate::line::Line;
 use std::alloc::{AllocError, Global};
 
@@ -14,10 +14,10 @@ use std::alloc::{AllocError, Global};
 pub const MOST_BYTES: usize = 32768;
 
 // Adds the bytes of a line.
-fn print(heap: Global, text: &mut String, line: Line) -> Result<(), AllocError>
+fn print(text: &mut String, line: Line) -> Result<(), AllocError>
     ensures { OnOk result (string_bytes text.new ≡ string_bytes text.old ++ line_bytes (told_in line)) }
 {
-    text.push_str(line.bytes(heap)?.as_str())
+    writeln!(text, "{line}")
 }
 
 // All that is printed for the commands of a job. Where bytes are left that no command that can be done begins,
@@ -27,12 +27,11 @@ fn run_commands(heap: Global, job: &[u8]) -> Result<String, AllocError>
     ensures { IfOk result (λ text. string_bytes text ≡ flat_map line_bytes (told_from nothing_yet (entries job.now))) }
 {
     let mut desk = Desk::new(heap);
-    let mut work = [0; WORK_PLACES];
     let mut text = String::new(heap);
     let mut rest = job;
     while let Some(command) = desk.next(rest) {
-        if let Some(line) = desk.perform(command, &mut work)? {
-            print(heap, &mut text, line)?;
+        if let Some(line) = desk.perform(command)? {
+            print(&mut text, line)?;
         }
         rest = &rest[command.size()..];
     }
@@ -40,7 +39,7 @@ fn run_commands(heap: Global, job: &[u8]) -> Result<String, AllocError>
         return Ok(text);
     }
     let place = job.len() - rest.len();
-    print(heap, &mut text, Line::Stopped { place })?;
+    print(&mut text, Line::Stopped { place })?;
     Ok(text)
 }
 

@@ -1,5 +1,5 @@
 -- Progressions: a first number, a step and a count, and the list that they name. Assumes nothing.
-use Rattle.std.specs.Prelude.{◌≡◌, ℕ, zero, suc, ◌+◌, ◌-◌, ◌*◌, ◌≤◌, List, [], ◌∷◌, length, Some, None, Option}
+use Rattle.std.specs.Prelude.{◌≡◌, ℕ, zero, suc, ◌+◌, ◌-◌, ◌*◌, ◌≤◌, List, [], ◌∷◌, ◌++◌, length, Some, None, Option, codes as ascii, decimal}
 use Rattle.periodicity.specs.declared.Progression.{Progression}
 
 -- first, first + step, and on, as many as count
@@ -9,6 +9,10 @@ progression first step (suc n) = first ∷ progression (first + step) step n
 
 abbrev pub triple : ℕ → ℕ → ℕ → Progression
 triple first step count = record { first = first; step = step; count = count }
+
+-- a first number, a step and a count
+abbrev pub triple_text : Progression → List ℕ
+triple_text p = decimal p.first ++ (ascii " " ++ (decimal p.step ++ (ascii " " ++ decimal p.count)))
 
 -- the numbers that a progression names
 abbrev pub named_by : Progression → List ℕ

@@ -2,9 +2,12 @@
 // repetition short. Theory stands here; nothing in this crate reads a strip.
 #![tactic(auto)]
 
-ghost use Rattle.std.specs.Prelude.{◌≡◌};
+ghost use Rattle.std.specs.Prelude.{◌≡◌, Some};
 ghost use Rattle.periodicity.specs.Fragments.{within};
+ghost use Rattle.periodicity.specs.Progressions.{triple_text};
 ghost use Rattle.periodicity.specs.Laws.{TestsHold, CommonGreatest, DifferenceRepeats, LeastDivides, OverlapsProgress, PlacesProgress, RecordsJoin};
+
+use std::fmt;
 
 // A part of a strip: where it starts, and how many codes it has.
 #[derive(Clone, Copy, PartialEq, Eq, Debug, Default)]
@@ -28,6 +31,15 @@ pub struct Progression {
     pub first: usize,
     pub step: usize,
     pub count: usize,
+}
+
+// Its first number, its step and its count.
+impl fmt::Display for Progression {
+    ghost output = { λ p. Some (triple_text p) };
+
+    fn fmt<W: fmt::Write>(&self, f: &mut fmt::Formatter<W>) -> fmt::Result {
+        write!(f, "{} {} {}", self.first, self.step, self.count)
+    }
 }
 
 // The laws of periodicity, which the answers to all questions rest on.
