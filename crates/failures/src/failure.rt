@@ -45,8 +45,7 @@ impl fmt::Display for Failure {
         let sentence = self.sentence();
         match self {
             Failure::Memory => f.write_str(sentence),
-            Failure::Read(error) => write!(f, "{sentence}: {error}"),
-            Failure::Write(error) => write!(f, "{sentence}: {error}"),
+            Failure::Read(error) | Failure::Write(error) => write!(f, "{sentence}: {error}"),
         }
     }
 }
