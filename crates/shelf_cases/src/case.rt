@@ -8,7 +8,7 @@ use std::alloc::{AllocError, Global};
 
 // The shelf that cases ask, and the memory that their texts are made in.
 #[derive(Drop)]
-pub struct Bench {
+pub(crate) struct Bench {
     pub(crate) heap: Global,
     pub(crate) shelf: Shelf,
 }
@@ -45,14 +45,12 @@ impl Bench {
     }
 
     fn row(&self, text: &str) -> anyhow::Result<String> {
-        let (asked, _) = word(text);
-        let row = self.shelf.row(number(Some(asked))?).map(Whole);
+        let row = self.shelf.row(number(text.split(' ').next())?).map(Whole);
         Ok(format!(in self.heap; "{}", OrNone(row))?)
     }
 
     fn length(&self, text: &str) -> anyhow::Result<String> {
-        let (asked, _) = word(text);
-        let length = self.shelf.length_of(number(Some(asked))?);
+        let length = self.shelf.length_of(number(text.split(' ').next())?);
         Ok(format!(in self.heap; "{}", OrNone(length))?)
     }
 
@@ -77,7 +75,7 @@ impl Bench {
         Ok(format!(in self.heap; "{outcome}:{cells}")?)
     }
 
-    // What is read of a shelf. A word of another kind than these writes a part out, as `write` does.
+    // What is read of a shelf; any other word writes a part out, as `write` does, since no word is refused here.
     fn read<K: Spelled + Copy + Drop>(&self, name: &str, rest: &str) -> anyhow::Result<String> {
         match name {
             "row" => self.row(rest),

@@ -23,7 +23,7 @@ impl Spelled for Glyph {
     const FILLER: Glyph = Glyph(7777);
 
     fn read(word: &str) -> anyhow::Result<Glyph> {
-        Ok(Glyph(number(Some(word))?))
+        Ok(Glyph(word.parse()?))
     }
 
     fn spell(&self, heap: Global) -> Result<String, AllocError> {

@@ -6,7 +6,7 @@ use failures::{Failure, exit_code};
 use std::io::{Read, Write};
 use std::process::ExitCode;
 
-// Beside the `run` of strip_job: how much is read and what is called of it differ, and little else is there.
+// Like the `run` of strip_job, but for the reading and the call, which are most of it.
 fn run(rt: &HostRuntime) -> Result<(), Failure> {
     let heap = rt.alloc();
     let mut text = Vec::new(heap);

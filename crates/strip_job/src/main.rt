@@ -9,7 +9,7 @@ use std::process::ExitCode;
 // One byte more than a job may have: it tells that the job is too long, and what follows is of no use.
 const MOST_READ: u64 = MOST_BYTES as u64 + 1;
 
-// Beside the `run` of strip_ask: how much is read and what is called of it differ, and little else is there.
+// Like the `run` of strip_ask, but for the reading and the call, which are most of it.
 fn run(rt: &HostRuntime) -> Result<(), Failure> {
     let heap = rt.alloc();
     let mut bytes = Vec::new(heap);
