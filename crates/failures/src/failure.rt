@@ -1,10 +1,12 @@
 // Failures and what they print.
 
 ghost use Rattle.std.specs.Prelude.{◌≡◌};
-ghost use Rattle.failures.specs.Sentences.{sentence_of, text_of};
+ghost use Rattle.std.specs.Process.{exit_status};
+ghost use Rattle.failures.specs.Sentences.{sentence_of, text_of, status_of};
 ghost use Rattle.failures.specs.declared.failure.Failure.TheVariants.{Memory};
 
 use std::alloc::AllocError;
+use std::process::ExitCode;
 use std::{fmt, io};
 
 #[derive(Drop)]
@@ -45,8 +47,20 @@ impl fmt::Display for Failure {
         let sentence = self.sentence();
         match self {
             Failure::Memory => f.write_str(sentence),
-            Failure::Read(error) => write!(f, "{sentence}: {error}"),
-            Failure::Write(error) => write!(f, "{sentence}: {error}"),
+            Failure::Read(error) | Failure::Write(error) => write!(f, "{sentence}: {error}"),
+        }
+    }
+}
+
+// Ends a program: says on standard error what failed, and gives the status that tells whether anything did.
+pub fn exit_code<R: Eprint>(rt: &R, program: &str, outcome: Result<(), Failure>) -> ExitCode
+    ensures { exit_status result ≡ status_of outcome }
+{
+    match outcome {
+        Ok(()) => ExitCode::SUCCESS,
+        Err(failure) => {
+            let _ = eprintln!(rt; "{program}: {failure}");
+            ExitCode::FAILURE
         }
     }
 }

@@ -4,4 +4,4 @@
 
 mod failure;
 
-pub use failure::Failure;
+pub use failure::{Failure, exit_code};

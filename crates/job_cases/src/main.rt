@@ -18,6 +18,7 @@ fn run_case(
     job: &[u8],
     expected: &[u8],
 ) -> anyhow::Result<()> {
+    // The library's error has other words.
     let printed = job::run(rt.alloc(), job).map_err(|_| anyhow!("there is too little memory"))?;
     let agrees = printed.as_bytes() == expected;
     tally.count(agrees);

@@ -3,7 +3,7 @@
 
 use std::alloc::{AllocError, Global};
 
-// The job and its printout.
+// The job and its printout. A line that has none expects what no job prints, so that it is named among those that differ.
 pub(crate) fn parts(line: &str) -> (&str, &str) {
     line.split_once('=')
         .map_or((line, "a printout"), |(job, printout)| {

@@ -19,52 +19,9 @@ pub struct Case<'a> {
     pub answer: &'a str,
 }
 
-// A line of the language of lines, as it is read: layers, and the question with its numbers.
-fn question_line(heap: Global, layers: &str, case: Case<'_>) -> Result<Line, AllocError> {
-    let line = format!(in heap; "{layers} {} {}", case.question, case.arguments)?;
-    parse(heap, line.as_bytes())
-}
-
-// The answer through layers upon layers.
-fn through_pile(
-    heap: Global,
-    case: Case<'_>,
-    below: &str,
-    above: &str,
-) -> Result<String, AllocError> {
-    let strip = format!(in heap; "strip {}", case.codes)?;
-    let strip = parse(heap, strip.as_bytes())?;
-    let below = question_line(heap, below, case)?;
-    let above = question_line(heap, above, case)?;
-    match (strip, below, above) {
-        (
-            Line::Strip { codes },
-            Line::Question { layers: below, .. },
-            Line::Question {
-                layers: above,
-                question,
-            },
-        ) => {
-            let answer = ask_pile(codes.as_slice(), below, above, question);
-            format!(in heap; "{answer}\n")
-        }
-        _ => String::from_str(heap, "not understood\n"),
-    }
-}
-
-// The answer through layers that a line can name: two lines are answered as the program for lines does.
-fn through_lines(heap: Global, case: Case<'_>) -> Result<String, AllocError>
-    ensures { IfOk result (λ text. string_bytes text ≡ transcript_of (asking_lines case.entry)) }
-{
-    let lines = format!(in heap;
-        "strip {}\n{} {} {}\n",
-        case.codes, case.layers, case.question, case.arguments
-    )?;
-    transcript(heap, lines.as_bytes())
-}
-
 impl<'a> Case<'a> {
     pub(crate) fn of(line: &'a str) -> Self {
+        // Not trimmed all at once: a fifth column that is empty is none, and one of blanks is an empty answer.
         let mut columns = line.splitn(5, '|');
         let question = columns.next().unwrap_or("").trim();
         let codes = columns.next().unwrap_or("").trim();
@@ -90,11 +47,50 @@ impl<'a> Case<'a> {
         format!(in heap; "{} {}\n", self.question, self.answer)
     }
 
+    // A line of the language of lines, as it is read: layers, and the question with its numbers.
+    fn question_line(self, heap: Global, layers: &str) -> Result<Line, AllocError> {
+        let line = format!(in heap; "{layers} {} {}", self.question, self.arguments)?;
+        parse(heap, line.as_bytes())
+    }
+
+    // The answer through layers upon layers.
+    fn through_pile(self, heap: Global, below: &str, above: &str) -> Result<String, AllocError> {
+        let strip = format!(in heap; "strip {}", self.codes)?;
+        let strip = parse(heap, strip.as_bytes())?;
+        let below = self.question_line(heap, below)?;
+        let above = self.question_line(heap, above)?;
+        match (strip, below, above) {
+            (
+                Line::Strip { codes },
+                Line::Question { layers: below, .. },
+                Line::Question {
+                    layers: above,
+                    question,
+                },
+            ) => {
+                let answer = ask_pile(codes.as_slice(), below, above, question);
+                format!(in heap; "{answer}\n")
+            }
+            _ => String::from_str(heap, "not understood\n"),
+        }
+    }
+
+    // The answer through layers that a line can name: two lines are answered as the program for lines does.
+    fn through_lines(self, heap: Global) -> Result<String, AllocError>
+        ensures { IfOk result (λ text. string_bytes text ≡ transcript_of (asking_lines self.entry)) }
+    {
+        let lines = format!(in heap;
+            "strip {}\n{} {} {}\n",
+            self.codes, self.layers, self.question, self.arguments
+        )?;
+        transcript(heap, lines.as_bytes())
+    }
+
     // The line that comes.
     pub(crate) fn run(self, heap: Global) -> Result<String, AllocError> {
         match self.layers.split_once(',') {
-            Some((below, above)) => through_pile(heap, self, below, above),
-            None => through_lines(heap, self),
+            Some((below, above)) => self.through_pile(heap, below, above),
+            None => self.through_lines(heap),
         }
     }
 }

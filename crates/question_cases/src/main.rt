@@ -5,17 +5,16 @@ mod case;
 mod pile;
 mod tallies;
 
-use anyhow::anyhow;
+use anyhow::ensure;
 use case::Case;
 use std::fs;
 use tallies::Tallies;
 
-// Runs the cases of a file, a line for each, and prints those whose answer is another; then how many
-// agree. Says whether all do.
-fn run_file(rt: &HostRuntime, name: &str) -> anyhow::Result<bool> {
+// Runs the cases of a file, a line for each, and prints those whose answer is another; then how many agree.
+fn run_file(rt: &HostRuntime, name: &str) -> anyhow::Result<Tallies> {
     let heap = rt.alloc();
     let text = fs::read_to_string(rt, name)?;
-    let mut tallies = Tallies::new();
+    let mut tallies = Tallies::default();
     for (i, line) in text.lines().enumerate() {
         let case = Case::of(line);
         let expected = case.expected(heap)?;
@@ -37,17 +36,17 @@ fn run_file(rt: &HostRuntime, name: &str) -> anyhow::Result<bool> {
     if tallies.others > 0 {
         println!(rt; "{name}: {} lines name no question", tallies.others)?;
     }
-    Ok(tallies.all_agree())
+    Ok(tallies)
 }
 
 fn run(rt: &HostRuntime) -> anyhow::Result<()> {
     let plain = run_file(rt, "questions.txt")?;
     let layered = run_file(rt, "layered.txt")?;
-    if plain && layered {
-        Ok(())
-    } else {
-        Err(anyhow!("some cases do not agree"))
-    }
+    ensure!(
+        plain.all_agree() && layered.all_agree(),
+        "some cases do not agree"
+    );
+    Ok(())
 }
 
 fn main(rt: HostRuntime) -> anyhow::Result<()> {

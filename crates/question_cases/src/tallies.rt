@@ -3,7 +3,7 @@
 use tally::Tally;
 
 // A tally for each question, and how many lines name none of them.
-#[derive(Clone, Copy)]
+#[derive(Clone, Copy, Default)]
 pub struct Tallies {
     pub places: Tally,
     pub overlaps: Tally,
@@ -12,15 +12,6 @@ pub struct Tallies {
 }
 
 impl Tallies {
-    pub(crate) fn new() -> Self {
-        Tallies {
-            places: Tally::new(),
-            overlaps: Tally::new(),
-            periods: Tally::new(),
-            others: 0,
-        }
-    }
-
     pub(crate) fn count(&mut self, question: &str, agrees: bool) {
         match question {
             "places" => self.places.count(agrees),

@@ -1,13 +1,14 @@
 // Takes, joins and cuts as a line spells them: alone, or sent as a list.
-use crate::spelling::{Spelled, number, read_cells, word};
+use crate::case::Bench;
+use crate::spelling::{Spelled, Told, number, read_cells};
 use anyhow::anyhow;
 use cells::CellKind;
 use periodicity::Fragment;
-use shelf::refusal::Refusal;
 use shelf::request::{Answer, Request, Sent};
 use shelf::shelf::Shelf;
 use std::alloc::{AllocError, Global};
 use std::fmt::Write;
+use std::str::Split;
 
 // What a work area holds before a call.
 const LEFTOVER: u16 = 43_981;
@@ -15,41 +16,43 @@ const LEFTOVER: u16 = 43_981;
 // What a place for an answer holds before a list is sent.
 const UNTOUCHED: u16 = 60_000;
 
-// The cells that a line as `take 3 5 9 5` spells; none where it spells another call.
+// The cells that a line as `take 3 5 9 5` spells; none where it spells another call. They are read before the
+// call, since a request borrows its cells.
 fn cells_taken<K: Spelled + Copy>(heap: Global, text: &str) -> anyhow::Result<Vec<K>> {
-    let (name, rest) = word(text);
-    if name != "take" {
-        return Ok(Vec::new(heap));
+    let mut parts = text.splitn(3, ' ');
+    match parts.next() {
+        Some("take") => read_cells(heap, parts.nth(1).unwrap_or("")),
+        _ => Ok(Vec::new(heap)),
     }
-    let (_, cells) = word(rest);
-    read_cells(heap, cells)
 }
 
-fn read_join<'a, K>(text: &str) -> anyhow::Result<Request<'a, K>> {
-    let (left, rest) = number(text)?;
-    let (right, _) = number(rest)?;
-    Ok(Request::Join { left, right })
+fn read_join<'a, K>(words: &mut Split<'_, char>) -> anyhow::Result<Request<'a, K>> {
+    Ok(Request::Join {
+        left: number(words.next())?,
+        right: number(words.next())?,
+    })
 }
 
-fn read_cut<'a, K>(text: &str) -> anyhow::Result<Request<'a, K>> {
-    let (row, rest) = number(text)?;
-    let (start, rest) = number(rest)?;
-    let (length, _) = number(rest)?;
+fn read_cut<'a, K>(words: &mut Split<'_, char>) -> anyhow::Result<Request<'a, K>> {
     Ok(Request::Cut {
-        number: row,
-        part: Fragment { start, length },
+        number: number(words.next())?,
+        part: Fragment {
+            start: number(words.next())?,
+            length: number(words.next())?,
+        },
     })
 }
 
 // A line as `take 3 5 9 5`, `join 3 3 1` or `cut 3 7 1 3`, with the cells that it takes: the first number is
 // that of the work places.
 fn read_call<'a, K>(text: &str, cells: &'a [K]) -> anyhow::Result<Sent<'a, K>> {
-    let (name, rest) = word(text);
-    let (places, rest) = number(rest)?;
+    let mut words = text.split(' ');
+    let name = words.next();
+    let places = number(words.next())?;
     let request = match name {
-        "take" => Request::Take { cells },
-        "join" => read_join(rest)?,
-        "cut" => read_cut(rest)?,
+        Some("take") => Request::Take { cells },
+        Some("join") => read_join(&mut words)?,
+        Some("cut") => read_cut(&mut words)?,
         _ => return Err(anyhow!("a line names no call")),
     };
     Ok(Sent { request, places })
@@ -78,38 +81,6 @@ fn said_of_work(work: &[u16]) -> &'static str {
     }
 }
 
-// A refusal, by its number, with the place where it tells one.
-pub(crate) fn spell_refusal(heap: Global, refusal: Refusal) -> Result<String, AllocError> {
-    let number = refusal.number();
-    match refusal {
-        Refusal::Unprintable { place } => format!(in heap; "refusal {number} at {place}"),
-        _ => format!(in heap; "refusal {number}"),
-    }
-}
-
-pub(crate) fn spell_answer(heap: Global, answer: Answer) -> Result<String, AllocError> {
-    match answer {
-        Ok(number) => format!(in heap; "{number}"),
-        Err(refusal) => spell_refusal(heap, refusal),
-    }
-}
-
-// Performs a call that a line spells.
-pub(crate) fn perform_call<K: Spelled + Copy + Drop>(
-    heap: Global,
-    shelf: &mut Shelf,
-    text: &str,
-) -> anyhow::Result<String> {
-    let cells = cells_taken::<K>(heap, text)?;
-    let call = read_call(text, cells.as_slice())?;
-    let mut work = work_area(heap, call.places)?;
-    let answer = perform(shelf, call.request, work.as_mut_slice());
-    let answer = spell_answer(heap, answer)?;
-    let count = shelf.count();
-    let said = said_of_work(work.as_slice());
-    Ok(format!(in heap; "{answer}, {count} rows{said}")?)
-}
-
 // The cells that the calls of a list take, call by call.
 fn cells_sent<K: Spelled + Copy + Drop>(
     heap: Global,
@@ -124,72 +95,87 @@ fn cells_sent<K: Spelled + Copy + Drop>(
 fn spell_answers(heap: Global, answers: &[Answer]) -> Result<String, AllocError> {
     let mut text = String::new(heap);
     for answer in answers {
-        write!(text, "; {}", spell_answer(heap, *answer)?)?;
+        write!(text, "; {}", Told(*answer))?;
     }
     Ok(text)
 }
 
-// Sends calls as a list: their number of answers, the work places there are, and the calls after bars.
-pub(crate) fn send<K: Spelled + Copy + Drop>(
-    heap: Global,
-    shelf: &mut Shelf,
-    text: &str,
-) -> anyhow::Result<String> {
-    let (capacity, rest) = number(text)?;
-    let (places, rest) = number(rest)?;
-    let calls = rest
-        .split('|')
-        .skip(1)
-        .map(str::trim)
-        .collect::<Vec<_>>(heap)?;
-    let cells = cells_sent::<K>(heap, calls.as_slice())?;
-    let mut requests = Vec::new(heap);
-    for (call, cells) in calls.iter().zip(cells.iter()) {
-        requests.push(read_call(call, cells.as_slice())?)?;
+impl Bench {
+    // Performs a call that a line spells.
+    pub(crate) fn perform_call<K: Spelled + Copy + Drop>(
+        &mut self,
+        text: &str,
+    ) -> anyhow::Result<String> {
+        let cells = cells_taken::<K>(self.heap, text)?;
+        let call = read_call(text, cells.as_slice())?;
+        let mut work = work_area(self.heap, call.places)?;
+        let answer = Told(perform(&mut self.shelf, call.request, work.as_mut_slice()));
+        let count = self.shelf.count();
+        let said = said_of_work(work.as_slice());
+        Ok(format!(in self.heap; "{answer}, {count} rows{said}")?)
     }
-    let mut answers = vec![in heap; Ok(UNTOUCHED); capacity]?;
-    let mut work = work_area(heap, places)?;
-    let performed = shelf.send(
-        requests.as_slice(),
-        answers.as_mut_slice(),
-        work.as_mut_slice(),
-    );
-    let answers = spell_answers(heap, answers.as_slice())?;
-    let count = shelf.count();
-    let said = said_of_work(work.as_slice());
-    Ok(format!(in heap; "{performed} performed{answers}, {count} rows{said}")?)
-}
 
-// Takes the cell of a code alone.
-fn take_one<K: CellKind + Copy + Drop>(
-    heap: Global,
-    shelf: &mut Shelf,
-    code: u16,
-    places: usize,
-) -> Result<Answer, AllocError> {
-    let cells = vec![in heap; K::cell(u32::from(code)); 1]?;
-    let mut work = work_area(heap, places)?;
-    Ok(shelf.take(cells.as_slice(), work.as_mut_slice()))
-}
-
-// Takes cells one by one, those of codes that follow each other: work places, the first code, and how many.
-pub(crate) fn each<K: CellKind + Copy + Drop>(
-    heap: Global,
-    shelf: &mut Shelf,
-    text: &str,
-) -> anyhow::Result<String> {
-    let (places, rest) = number(text)?;
-    let (first, rest) = number::<u16>(rest)?;
-    let (times, _) = number(rest)?;
-    let mut refused = 0usize;
-    let mut last = Ok(UNTOUCHED);
-    for code in first..first.saturating_add(times) {
-        last = take_one::<K>(heap, shelf, code, places)?;
-        if last.is_err() {
-            refused = refused.saturating_add(1);
-        }
+    // Sends calls as a list: their number of answers, the work places there are, and the calls after bars.
+    pub(crate) fn send<K: Spelled + Copy + Drop>(&mut self, text: &str) -> anyhow::Result<String> {
+        let heap = self.heap;
+        let mut parts = text.splitn(3, ' ');
+        let capacity = number(parts.next())?;
+        let places = number(parts.next())?;
+        let calls = parts
+            .next()
+            .unwrap_or("")
+            .split('|')
+            .skip(1)
+            .map(str::trim)
+            .collect::<Vec<_>>(heap)
+            .map_err(|_| anyhow!("too little memory"))?;
+        // Cells in a list of their own, since requests borrow them.
+        let cells = cells_sent::<K>(heap, calls.as_slice())?;
+        let requests = calls
+            .iter()
+            .zip(cells.iter())
+            .map(|(call, cells)| -> anyhow::Result<Sent<'_, K>> {
+                read_call(call, cells.as_slice())
+            })
+            .try_collect::<Vec<_>>(heap)?;
+        let mut answers = vec![in heap; Ok(UNTOUCHED); capacity]?;
+        let mut work = work_area(heap, places)?;
+        let performed = self.shelf.send(
+            requests.as_slice(),
+            answers.as_mut_slice(),
+            work.as_mut_slice(),
+        );
+        let answers = spell_answers(heap, answers.as_slice())?;
+        let count = self.shelf.count();
+        let said = said_of_work(work.as_slice());
+        Ok(format!(in heap; "{performed} performed{answers}, {count} rows{said}")?)
     }
-    let last = spell_answer(heap, last)?;
-    let count = shelf.count();
-    Ok(format!(in heap; "last {last}, {refused} refused, {count} rows")?)
+
+    // Takes the cell of a code alone. In a list, since `&[cell]` at a type parameter asks that its size is known
+    // to fit memory.
+    fn take_one<K: CellKind + Copy + Drop>(
+        &mut self,
+        code: u16,
+        places: usize,
+    ) -> Result<Answer, AllocError> {
+        let cells = vec![in self.heap; K::cell(u32::from(code)); 1]?;
+        let mut work = work_area(self.heap, places)?;
+        Ok(self.shelf.take(cells.as_slice(), work.as_mut_slice()))
+    }
+
+    // Takes cells one by one, those of codes that follow each other: work places, the first code, and how many.
+    pub(crate) fn each<K: CellKind + Copy + Drop>(&mut self, text: &str) -> anyhow::Result<String> {
+        let mut words = text.split(' ');
+        let places = number(words.next())?;
+        let first = number::<u16>(words.next())?;
+        let times = number(words.next())?;
+        let heap = self.heap;
+        let answers = (first..first.saturating_add(times))
+            .map(|code| self.take_one::<K>(code, places))
+            .try_collect::<Vec<_>>(heap)?;
+        let refused = answers.iter().filter(|answer| answer.is_err()).count();
+        let last = Told(answers.last().copied().unwrap_or(Ok(UNTOUCHED)));
+        let count = self.shelf.count();
+        Ok(format!(in heap; "last {last}, {refused} refused, {count} rows")?)
+    }
 }

@@ -6,40 +6,29 @@ mod call;
 mod case;
 mod spelling;
 
-use anyhow::anyhow;
-use case::answer;
-use cells::Glyph;
-use shelf::shelf::Shelf;
+use anyhow::ensure;
+use case::Bench;
 use std::fs;
 use tally::Tally;
 
-// What a line `asked = expected` asks, and the answer that it expects.
+// What a line `asked = expected` asks, and the answer that it expects. A line that has none expects what no shelf
+// answers, so that it is printed among those that differ.
 fn parts(line: &str) -> (&str, &str) {
     line.split_once(" = ").unwrap_or((line, "an answer"))
-}
-
-fn print_difference(
-    rt: &HostRuntime,
-    asked: &str,
-    got: &str,
-    expected: &str,
-) -> anyhow::Result<()> {
-    println!(rt; "{asked} = {got}: DIFFERS from {expected}")?;
-    Ok(())
 }
 
 // Runs a case; where it agrees, it is printed only when `all` are.
 fn run_case(
     rt: &HostRuntime,
-    shelf: &mut Shelf,
+    bench: &mut Bench,
     asked: &str,
     expected: &str,
     all: bool,
 ) -> anyhow::Result<bool> {
-    let got = answer(rt.alloc(), shelf, asked)?;
+    let got = bench.answer(asked)?;
     let agrees = got.as_str() == expected;
     if !agrees {
-        print_difference(rt, asked, got.as_str(), expected)?;
+        println!(rt; "{asked} = {got}: DIFFERS from {expected}")?;
     } else if all {
         println!(rt; "{asked} = {got}: agrees")?;
     }
@@ -49,19 +38,20 @@ fn run_case(
 // Runs the lines of a file, on shelves that its lines make new.
 fn run_file(rt: &HostRuntime, name: &str, all: bool) -> anyhow::Result<Tally> {
     let text = fs::read_to_string(rt, name)?;
-    let mut shelf = Shelf::new::<Glyph>();
+    let mut bench = Bench::new(rt.alloc());
     let mut tally = Tally::new();
     for line in text.lines() {
         if line.starts_with('#') {
             println!(rt; "{line}")?;
         } else {
             let (asked, expected) = parts(line);
-            tally.count(run_case(rt, &mut shelf, asked, expected, all)?);
+            tally.count(run_case(rt, &mut bench, asked, expected, all)?);
         }
     }
     Ok(tally)
 }
 
+// The large files are counted, and only their differences printed.
 fn run(rt: &HostRuntime) -> anyhow::Result<()> {
     let mut total = run_file(rt, "cases.txt", true)?;
     for name in ["few_glyphs.txt", "many_glyphs.txt", "some_days.txt"] {
@@ -70,9 +60,7 @@ fn run(rt: &HostRuntime) -> anyhow::Result<()> {
         total.add(tally);
     }
     println!(rt; "{} of {} cases agree", total.agree, total.run)?;
-    if !total.all_agree() {
-        return Err(anyhow!("some cases do not agree"));
-    }
+    ensure!(total.all_agree(), "some cases do not agree");
     Ok(())
 }
 

@@ -1,14 +1,18 @@
-// How cells and the numbers of a case are spelled.
+// How cells, answers and the numbers of a case are spelled.
 use cells::{CellKind, Day, Glyph};
+use rows::{Row, Shape};
+use shelf::refusal::Refusal;
 use std::alloc::{AllocError, Global};
 use std::error::Error;
+use std::fmt;
 use std::fmt::Write;
 use std::str::FromStr;
 
-// A kind whose cells can be spelled with all their fields.
+// A kind whose cells can be spelled with all their fields. A trait of our own, since the kinds and the library's
+// traits are other crates'.
 pub trait Spelled: CellKind {
     // What a list holds before it is written to.
-    fn filler() -> Self;
+    const FILLER: Self;
 
     fn read(word: &str) -> anyhow::Result<Self>;
 
@@ -16,12 +20,10 @@ pub trait Spelled: CellKind {
 }
 
 impl Spelled for Glyph {
-    fn filler() -> Glyph {
-        Glyph(7777)
-    }
+    const FILLER: Glyph = Glyph(7777);
 
     fn read(word: &str) -> anyhow::Result<Glyph> {
-        Ok(Glyph(word.parse::<u16>()?))
+        Ok(Glyph(word.parse()?))
     }
 
     fn spell(&self, heap: Global) -> Result<String, AllocError> {
@@ -30,25 +32,20 @@ impl Spelled for Glyph {
 }
 
 impl Spelled for Day {
-    fn filler() -> Day {
-        Day {
-            day: 9,
-            weekday: 9,
-            mark: 9,
-            note: 9,
-        }
-    }
+    const FILLER: Day = Day {
+        day: 9,
+        weekday: 9,
+        mark: 9,
+        note: 9,
+    };
 
     fn read(word: &str) -> anyhow::Result<Day> {
-        let (day, rest) = number_before(word, '.')?;
-        let (weekday, rest) = number_before(rest, '.')?;
-        let (mark, rest) = number_before(rest, '.')?;
-        let (note, _) = number_before(rest, '.')?;
+        let mut fields = word.split('.');
         Ok(Day {
-            day,
-            weekday,
-            mark,
-            note,
+            day: number(fields.next())?,
+            weekday: number(fields.next())?,
+            mark: number(fields.next())?,
+            note: number(fields.next())?,
         })
     }
 
@@ -57,28 +54,17 @@ impl Spelled for Day {
     }
 }
 
-// The text before the next mark of this kind, and the text after it; all and nothing where there is none.
-fn before(text: &str, mark: char) -> (&str, &str) {
-    text.split_once(mark).unwrap_or((text, ""))
-}
-
+// The first word of a text, and what follows it.
 pub(crate) fn word(text: &str) -> (&str, &str) {
-    before(text, ' ')
+    text.split_once(' ').unwrap_or((text, ""))
 }
 
-fn number_before<T: FromStr>(text: &str, mark: char) -> anyhow::Result<(T, &str)>
+// The number that a word spells; one that is missing is read as an empty word.
+pub(crate) fn number<T: FromStr>(word: Option<&str>) -> anyhow::Result<T>
 where
     T::Err: Error + Drop,
 {
-    let (digits, rest) = before(text, mark);
-    Ok((digits.parse::<T>()?, rest))
-}
-
-pub(crate) fn number<T: FromStr>(text: &str) -> anyhow::Result<(T, &str)>
-where
-    T::Err: Error + Drop,
-{
-    number_before(text, ' ')
+    Ok(word.unwrap_or("").parse::<T>()?)
 }
 
 // Cells with spaces between; `5x3` is three cells.
@@ -92,28 +78,66 @@ pub(crate) fn read_cells<K: Spelled + Copy>(heap: Global, text: &str) -> anyhow:
     Ok(cells)
 }
 
-fn push_run(text: &mut String, cell: &str, times: usize) -> Result<(), AllocError> {
-    match times {
-        0 => Ok(()),
-        1 => write!(text, " {cell}"),
-        _ => write!(text, " {cell}x{times}"),
+// Cells as `read_cells` reads them, with a space before each cell or run of cells.
+pub(crate) fn spell_cells<K: Spelled>(heap: Global, cells: &[K]) -> Result<String, AllocError> {
+    let spelled = cells
+        .iter()
+        .map(|cell| cell.spell(heap))
+        .try_collect::<Vec<_>>(heap)?;
+    let mut text = String::new(heap);
+    for run in spelled.chunk_by(|one, next| one == next) {
+        match run {
+            [] => {}
+            [cell] => write!(text, " {cell}")?,
+            [cell, ..] => write!(text, " {cell}x{}", run.len())?,
+        }
+    }
+    Ok(text)
+}
+
+// What a call answers, or its refusal: that by its number, with the place where it tells one.
+#[derive(Drop)]
+pub(crate) struct Told<T>(pub(crate) Result<T, Refusal>);
+
+impl<T: fmt::Display> fmt::Display for Told<T> {
+    fn fmt<W: fmt::Write>(&self, f: &mut fmt::Formatter<W>) -> fmt::Result {
+        match &self.0 {
+            Ok(answer) => write!(f, "{answer}"),
+            Err(refusal) => {
+                write!(f, "refusal {}", refusal.number())?;
+                match refusal {
+                    Refusal::Unprintable { place } => write!(f, " at {place}"),
+                    _ => Ok(()),
+                }
+            }
+        }
     }
 }
 
-// The same the other way, with a space before each cell or run of cells.
-pub(crate) fn spell_cells<K: Spelled>(heap: Global, cells: &[K]) -> Result<String, AllocError> {
-    let mut text = String::new(heap);
-    let mut last = String::new(heap);
-    let mut times = 0usize;
-    for cell in cells {
-        let next = cell.spell(heap)?;
-        if next != last {
-            push_run(&mut text, last.as_str(), times)?;
-            last = next;
-            times = 0;
+// What a shelf knows, or that it knows nothing.
+#[derive(Drop)]
+pub(crate) struct OrNone<T>(pub(crate) Option<T>);
+
+impl<T: fmt::Display> fmt::Display for OrNone<T> {
+    fn fmt<W: fmt::Write>(&self, f: &mut fmt::Formatter<W>) -> fmt::Result {
+        match &self.0 {
+            Some(known) => write!(f, "{known}"),
+            None => f.write_str("none"),
         }
-        times = times.saturating_add(1);
     }
-    push_run(&mut text, last.as_str(), times)?;
-    Ok(text)
+}
+
+// A row with all its fields.
+#[derive(Drop)]
+pub(crate) struct Whole(pub(crate) Row);
+
+impl fmt::Display for Whole {
+    fn fmt<W: fmt::Write>(&self, f: &mut fmt::Formatter<W>) -> fmt::Result {
+        match self.0.shape {
+            Shape::Leaf { code } => write!(f, "leaf {code}")?,
+            Shape::Pair { left, right } => write!(f, "pair {left} {right}")?,
+            Shape::Repeat { part, times } => write!(f, "repeat {part} {times}")?,
+        }
+        write!(f, ", length {}, round {}", self.0.length, self.0.round)
+    }
 }

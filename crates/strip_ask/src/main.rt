@@ -2,10 +2,11 @@
 #![tactic(auto)]
 
 use ask::transcript;
-use failures::Failure;
+use failures::{Failure, exit_code};
 use std::io::{Read, Write};
 use std::process::ExitCode;
 
+// Like the `run` of strip_job, but for the reading and the call, which are most of it.
 fn run(rt: &HostRuntime) -> Result<(), Failure> {
     let heap = rt.alloc();
     let mut text = Vec::new(heap);
@@ -17,11 +18,5 @@ fn run(rt: &HostRuntime) -> Result<(), Failure> {
 }
 
 fn main(rt: HostRuntime) -> ExitCode {
-    match run(&rt) {
-        Ok(()) => ExitCode::SUCCESS,
-        Err(failure) => {
-            let _ = eprintln!(rt; "strip_ask: {failure}");
-            ExitCode::FAILURE
-        }
-    }
+    exit_code(&rt, "strip_ask", run(&rt))
 }

@@ -1,7 +1,7 @@
 // Runs a job: reads it from standard input, and prints what its commands answer.
 #![tactic(auto)]
 
-use failures::Failure;
+use failures::{Failure, exit_code};
 use job::MOST_BYTES;
 use std::io::{Read, Write};
 use std::process::ExitCode;
@@ -9,6 +9,7 @@ use std::process::ExitCode;
 // One byte more than a job may have: it tells that the job is too long, and what follows is of no use.
 const MOST_READ: u64 = MOST_BYTES as u64 + 1;
 
+// Like the `run` of strip_ask, but for the reading and the call, which are most of it.
 fn run(rt: &HostRuntime) -> Result<(), Failure> {
     let heap = rt.alloc();
     let mut bytes = Vec::new(heap);
@@ -23,11 +24,5 @@ fn run(rt: &HostRuntime) -> Result<(), Failure> {
 }
 
 fn main(rt: HostRuntime) -> ExitCode {
-    match run(&rt) {
-        Ok(()) => ExitCode::SUCCESS,
-        Err(failure) => {
-            let _ = eprintln!(rt; "strip_job: {failure}");
-            ExitCode::FAILURE
-        }
-    }
+    exit_code(&rt, "strip_job", run(&rt))
 }

@@ -1,5 +1,5 @@
-// Asks for hundreds of thousands of extensions in strips of 65,535 cells, and prints what they come to. Code by
-// code that would be billions of comparisons, and the program would run for long; what is compared is its output.
+// Asks for 1.5 million extensions in strips of 65,535 cells, and prints what they come to. Code by code that
+// would be billions of comparisons, and the program would run for long; what is compared is its output.
 #![tactic(auto)]
 
 mod pattern;
@@ -18,17 +18,17 @@ const PLACES: [usize; 3] = [0, 7, 4_096];
 fn total(strip: &ShelfStrip, side: Side, i: usize) -> usize {
     (0..=strip.len())
         .map(|j| strip.extension(side, i, j).unwrap_or(0))
-        .fold(0, |total: usize, agreeing| total.saturating_add(agreeing))
+        .fold(0, usize::saturating_add)
 }
 
 fn run_pattern(rt: &HostRuntime, pattern: Pattern) -> anyhow::Result<()> {
     let heap = rt.alloc();
     let cells = pattern.cells(heap)?;
-    let mut work = vec![in heap; 0u16; 65_535]?;
+    let mut work = vec![in heap; 0u16; cells.len()]?;
     let mut shelf = Shelf::new::<Glyph>();
-    let Ok(number) = shelf.take(cells.as_slice(), work.as_mut_slice()) else {
-        return Err(anyhow!("a strip was refused"));
-    };
+    let number = shelf
+        .take(cells.as_slice(), work.as_mut_slice())
+        .map_err(|_| anyhow!("a strip was refused"))?;
     let strip = ShelfStrip::new(&shelf, number);
     let length = strip.len();
     println!(rt; "{pattern}: {length} cells")?;

@@ -53,8 +53,8 @@ impl Pattern {
         })
     }
 
-    // The first 65,535 cells.
+    // The first 65,535 cells, as many as a strip may have.
     pub(crate) fn cells(self, heap: Global) -> Result<Vec<Glyph>, AllocError> {
-        (0..65_535).map(|place| self.cell(place)).collect(heap)
+        (0..u16::MAX).map(|place| self.cell(place)).collect(heap)
     }
 }

@@ -6,7 +6,7 @@ ghost use Rattle.tally.specs.Tallies.{none_yet, counted, together, tally_text};
 
 use std::fmt;
 
-#[derive(Clone, Copy)]
+#[derive(Clone, Copy, Default)]
 pub struct Tally {
     pub run: usize,
     pub agree: usize,
@@ -16,7 +16,7 @@ impl Tally {
     pub fn new() -> Self
         ensures { result ≡ none_yet }
     {
-        Tally { run: 0, agree: 0 }
+        Self::default()
     }
 
     // One case more.
