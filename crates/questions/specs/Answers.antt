@@ -1,16 +1,20 @@
 -- The laws of the three questions: unless a check refuses, an answer names exactly what is there.
 -- Assumes nothing.
-use Rattle.std.specs.Prelude.{◌≡◌, ℕ, List, take, Some, None, Ok, Err, Option, Result}
+use Rattle.std.specs.Prelude.{◌≡◌, ℕ, Bool, List, take, Some, None, Ok, Err, Option, Result}
 use Rattle.std.specs.List.{flat_map}
 use Rattle.periodicity.specs.declared.Fragment.{Fragment}
 use Rattle.periodicity.specs.declared.Progression.{Progression}
 use Rattle.periodicity.specs.Fragments.{cut}
 use Rattle.periodicity.specs.Places.{places_of}
-use Rattle.periodicity.specs.Overlaps.{overlaps_of}
+use Rattle.periodicity.specs.Overlaps.{is_overlap, overlaps_of}
 use Rattle.periodicity.specs.Periods.{periods_of, PeriodsNamed}
 use Rattle.periodicity.specs.Progressions.{Names, named_by}
 use Rattle.questions.specs.declared.refusal.Refusal.{Refusal}
 use Rattle.questions.specs.Outcomes.{refusal_number, places_check, overlaps_check, periods_check}
+
+-- whether two fragments of a strip overlap in so many codes
+abbrev pub overlap_in : List ℕ → Fragment → Fragment → ℕ → Bool
+overlap_in xs first second = is_overlap (cut xs first) (cut xs second)
 
 -- a call is refused exactly when a check applies, by the number of the first that does; else its answer
 -- keeps the promise

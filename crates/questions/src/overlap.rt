@@ -1,11 +1,9 @@
 // The overlaps of two fragments.
 
 ghost use Rattle.std.specs.Prelude.{◌≡◌, ◌+◌, ◌-◌, ◌*◌, ◌/◌, ◌<◌, ◌≤◌, min, true, length};
-ghost use Rattle.periodicity.specs.Fragments.{cut};
-ghost use Rattle.periodicity.specs.Overlaps.{is_overlap};
 ghost use Rattle.periodicity.specs.Progressions.{triple};
 ghost use Rattle.periodicity.specs.Ranges.{GreatestFrom, Tells};
-ghost use Rattle.questions.specs.Answers.{OverlapsLaw};
+ghost use Rattle.questions.specs.Answers.{OverlapsLaw, overlap_in};
 ghost use Rattle.questions.specs.Outcomes.{outcome, overlaps_outcome};
 
 use crate::alone::alone;
@@ -47,7 +45,7 @@ impl<K: Keeper> Parts<'_, K> {
     fn is_overlap(&self, size: usize) -> bool
         requires in_first { size ≤ self.now.first.length }
         requires in_second { size ≤ self.now.second.length }
-        ensures { result ≡ is_overlap (cut (K.codes self.now.keeper.now) self.now.first) (cut (K.codes self.now.keeper.now) self.now.second) size }
+        ensures { result ≡ overlap_in (K.codes self.now.keeper.now) self.now.first self.now.second size }
     {
         let suffix = self.second.start + (self.second.length - size);
         self.common_ahead(self.first.start, suffix) >= size
@@ -66,7 +64,7 @@ impl<K: Keeper> Parts<'_, K> {
     fn longest_overlap(&self, mut lengths: Range<usize>) -> Option<usize>
         requires in_first { lengths.end ≤ self.now.first.length + 1 }
         requires in_second { lengths.end ≤ self.now.second.length + 1 }
-        ensures { GreatestFrom (is_overlap (cut (K.codes self.now.keeper.now) self.now.first) (cut (K.codes self.now.keeper.now) self.now.second)) lengths.start lengths.end result }
+        ensures { GreatestFrom (overlap_in (K.codes self.now.keeper.now) self.now.first self.now.second) lengths.start lengths.end result }
     {
         lengths.rfind(|&size| self.is_overlap(size))
     }
@@ -75,7 +73,7 @@ impl<K: Keeper> Parts<'_, K> {
     // with it all shorter ones, since each is shorter by a period of the greatest.
     pub(crate) fn overlaps_from(&self, least: usize) -> Option<Progression>
         requires some { 0 < least }
-        ensures { Tells (is_overlap (cut (K.codes self.now.keeper.now) self.now.first) (cut (K.codes self.now.keeper.now) self.now.second)) least (least + least) result }
+        ensures { Tells (overlap_in (K.codes self.now.keeper.now) self.now.first self.now.second) least (least + least) result }
     {
         let longest = self.longest_overlap(self.lengths(least))?;
         let Some(next) = self.longest_overlap(least..longest) else {

@@ -13,8 +13,7 @@ pub(crate) fn check_lies<K: Keeper>(keeper: &K, fragment: Fragment) -> Result<()
     ensures lies { IfOk result (λ _. fragment.start + fragment.length ≤ length (K.codes keeper.now)) }
     ensures leaves { IfErr result (λ refusal. (refusal ≡ Refusal.FragmentLeavesStrip) × (inside (K.codes keeper.now) fragment ≡ false)) }
 {
-    let len = keeper.len();
-    if fragment.start > len || fragment.length > len - fragment.start {
+    if !fragment.lies_within(keeper.len()) {
         return Err(Refusal::FragmentLeavesStrip);
     }
     Ok(())

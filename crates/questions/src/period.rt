@@ -66,7 +66,8 @@ fn write_first<I: Iterator<Item = Progression> + Drop>(records: &mut [Progressio
     }
 }
 
-// A fragment of at least one code that lies in the keeper's strip.
+// A fragment of at least one code that lies in the keeper's strip. Beside `Parts`, since the periods also need that
+// the fragment is not empty.
 #[derive(Drop)]
 struct Part<'a, K: Keeper> {
     keeper: &'a K,

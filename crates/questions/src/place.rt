@@ -71,10 +71,8 @@ impl<K: Keeper> Parts<'_, K> {
     {
         let pattern = self.first;
         let field = self.second;
-        if field.length < pattern.length {
-            return None;
-        }
-        let end = field.start + (field.length - pattern.length) + 1;
+        let spare = field.length.checked_sub(pattern.length)?;
+        let end = field.start + spare + 1;
         let first = self.first_place(field.start..end)?;
         let Some(second) = self.first_place(first + 1..end) else {
             return Some(alone(first));

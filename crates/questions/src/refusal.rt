@@ -1,4 +1,4 @@
-// Why a question is refused.
+// Why a question is refused. Refusal 7 stands here and in `shelf`, neither of which builds on the other.
 
 ghost use Rattle.std.specs.Prelude.{◌≡◌, Some};
 ghost use Rattle.questions.specs.Outcomes.{refusal_number, refusal_sentence};

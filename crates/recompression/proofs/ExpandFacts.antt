@@ -3,7 +3,7 @@
 use Rattle.std.proofs.Common.{◌≡◌, ℕ, zero, suc, ◌+◌, ◌-◌, ◌*◌, ◌/◌, ◌%◌, ◌<◌, ◌≤◌, min, List, [], ◌∷◌, ◌++◌, length, take, drop, set, sym, refl, ap, ◌∙◌, subst, inl, inr, mod-lt, mod-eq_of_lt, arith, length-append, length-drop}
 use native.Mathlib.Nat.{mod-eq-sub-mod}
 use borrow.Rule.Slice.PartMut.{put_mid}
-use Rattle.std.proofs.lemmas.List.{append-nil, drop_all, drop-append-le, drop-drop, nil_from_length, take_all, take-append-le, length-take-le}
+use Rattle.std.proofs.lemmas.List.{append-nil, drop-append-le, drop-drop, nil_from_length, take_all, take-append-le, length-take-le}
 use Rattle.std.proofs.lemmas.Slice.{take-put_mid}
 use Rattle.std.proofs.lemmas.Bool.{cases_lt}
 use Rattle.std.proofs.lemmas.Nat.{div-add-mod', mod-mul-add}
@@ -165,35 +165,30 @@ module _ {rows : List Row} {n start : ℕ} (kept : LengthsKept rows) where
         two_parts (part_string rows n left) (part_string rows n right) start count (part_length rows n left) split (part_kept rows kept n left) (few asked) at
         ∙ ap (λ xs. take count (drop start xs)) (sym (string_is asked))
 
-    -- the front is that of the left part, written or empty
-    pub front_written : (out ys : List ℕ) (size k : ℕ) → 0 < split → size ≡ split → ys ≡ written_out rows left start size → length ys ≡ size
-        → take split (put_mid 0 k out ys) ≡ take split (drop start (part_string rows n left))
-    front_written out ys size k more same is long =
+    -- the front is that of the left part, written or with no place
+    pub front_written : (ys : List ℕ) (size : ℕ) → 0 < size → size ≡ split → ys ≡ written_out rows left start size → ys ≡ take split (drop start (part_string rows n left))
+    front_written ys size more same is =
         let part = part_known rows n left (omega arith) in
-        take-put_mid 0 k out ys split (omega arith) (omega arith) ∙ is ∙ ap (λ m. written_out rows left start m) same ∙ ap (λ xs. take split (drop start xs)) (sym part.2)
+        is ∙ ap (λ m. written_out rows left start m) same ∙ ap (λ xs. take split (drop start xs)) (sym part.2)
 
-    pub front_empty : (out : List ℕ) → split ≡ 0 → take split out ≡ take split (drop start (part_string rows n left))
-    front_empty out none = ap (λ m. take m out) none ∙ sym (ap (λ m. take m (drop start (part_string rows n left))) none)
+    pub front_empty : (ys : List ℕ) → length ys ≡ split → split ≡ 0 → ys ≡ take split (drop start (part_string rows n left))
+    front_empty ys same none = nil_from_length ys (same ∙ none) ∙ sym (ap (λ m. take m (drop start (part_string rows n left))) none)
 
     -- and the back that of the right part
-    module _ (out : List ℕ) (long : length out ≡ count) (front : take split out ≡ take split (drop start (part_string rows n left))) where
-      pub pair_out : (ys : List ℕ) (from size k : ℕ) → split < count → from ≡ start - part_length rows n left → size ≡ count - split → k ≡ count - split
-          → ys ≡ written_out rows right from size → put_mid split k out ys ≡ written_out rows n start count
-      pair_out ys from size k more begin same rest is =
-          let whole : ys ≡ written_out rows right (start - part_length rows n left) (count - split) = is ∙ ap (λ m. written_out rows right from m) same ∙ ap (λ i. written_out rows right i (count - split)) begin in
-          let past : length (drop split out) ≤ k = let l = length-drop split out in omega arith in
-          ap (λ xs. take split out ++ (ys ++ xs)) (drop_all k (drop split out) past)
-          ∙ ap (λ xs. take split out ++ xs) (append-nil ys)
-          ∙ ap (λ xs. xs ++ ys) front
-          ∙ ap (λ xs. take split (drop start (part_string rows n left)) ++ xs) (whole ∙ ap (λ xs. take (count - split) (drop (start - part_length rows n left) xs)) (sym (right_fits more).2))
-          ∙ pair_parts
+    pub pair_out : (front ys : List ℕ) (from size : ℕ) → front ≡ take split (drop start (part_string rows n left)) → split < count → from ≡ start - part_length rows n left → size ≡ count - split
+        → ys ≡ written_out rows right from size → front ++ ys ≡ written_out rows n start count
+    pair_out front ys from size first more begin same is =
+        let whole : ys ≡ written_out rows right (start - part_length rows n left) (count - split) = is ∙ ap (λ m. written_out rows right from m) same ∙ ap (λ i. written_out rows right i (count - split)) begin in
+        ap (λ xs. xs ++ ys) first
+        ∙ ap (λ xs. take split (drop start (part_string rows n left)) ++ xs) (whole ∙ ap (λ xs. take (count - split) (drop (start - part_length rows n left) xs)) (sym (right_fits more).2))
+        ∙ pair_parts
 
-      pub pair_front_out : count ≤ split → out ≡ written_out rows n start count
-      pair_front_out enough =
-          let none : count - split ≡ 0 = omega arith in
-          sym (take_all split out (omega arith)) ∙ front ∙ sym (append-nil (take split (drop start (part_string rows n left))))
-          ∙ ap (λ m. take split (drop start (part_string rows n left)) ++ take m (drop (start - part_length rows n left) (part_string rows n right))) (sym none)
-          ∙ pair_parts
+    pub pair_front_out : (front ys : List ℕ) → front ≡ take split (drop start (part_string rows n left)) → length ys ≡ 0 → count ≤ split → front ++ ys ≡ written_out rows n start count
+    pair_front_out front ys first empty enough =
+        let none : count - split ≡ 0 = omega arith in
+        ap (λ xs. front ++ xs) (nil_from_length ys empty ∙ ap (λ m. take m (drop (start - part_length rows n left) (part_string rows n right))) (sym none))
+        ∙ ap (λ xs. xs ++ take (count - split) (drop (start - part_length rows n left) (part_string rows n right))) first
+        ∙ pair_parts
 
   module _ {part m count limit : ℕ} (asked : Asked rows n (Repeat part m) start count) (more : 0 < count) (is : limit ≡ part_length rows n part) where
     repeat_long : (row_of rows n).length ≡ min 65535 (m * length (part_string rows n part))

@@ -1,5 +1,5 @@
 -- The rows of a table, and what a number is answered with. Assumes nothing.
-use Rattle.std.specs.Prelude.{ℕ, cond, ◌&&◌, List, length, Some, None, Option, nat_le, nat_lt}
+use Rattle.std.specs.Prelude.{◌≡◌, ℕ, cond, ◌&&◌, List, length, Some, None, Option, nat_le, nat_lt}
 use Rattle.rows.specs.declared.Row.{Row}
 use Rattle.rows.specs.Filing.{row_of, Numbered}
 use Rattle.recompression.specs.declared.table.Table.{Table}
@@ -22,3 +22,8 @@ number_in (Some f) = Some f.number
 abbrev pub rows_left : List Row → Option Numbered → List Row
 rows_left rows None = rows
 rows_left rows (Some f) = f.rows
+
+-- what filing answers and leaves, of rows that were there before
+pub record Filed (before : List Row) (filed : Option Numbered) (answer : Option ℕ) (after : List Row) : Type 0 where
+  pub number : answer ≡ number_in filed
+  pub rows : after ≡ rows_left before filed

@@ -1,4 +1,4 @@
-// The slots of a table: plain data, with no invariant.
+// The slots of a table: plain data, with no invariant, since the table around them has one that says more.
 ghost use Rattle.std.specs.Prelude.{◌≡◌, ◌<◌, ◌≤◌, replicate, position};
 ghost use Rattle.rows.specs.Filing.{blank_row, alike};
 ghost use Rattle.recompression.specs.Tables.{in_use, appended, truncated};

@@ -62,16 +62,13 @@ all_filed old codes i rows numbers going past same =
 
 -- the code of a cell that was read
 module _ {C : Type 0} (coded : C → Option ℕ) (cells : List C) (i : ℕ) (x : C) (printable : first_unprintable coded cells ≡ None) (inside : i < length cells) (is : x ≡ get_or cells i x) where
-  here : coded x ≡ Some (get_or (printed coded cells) i 0)
-  here = ap coded is ∙ codes_at coded cells (printed coded cells) i x (printed_codes coded cells printable) inside
+  pub code_there : coded x ≡ Some (get_or (printed coded cells) i 0)
+  code_there = ap coded is ∙ codes_at coded cells (printed coded cells) i x (printed_codes coded cells printable) inside
 
   pub code_read : (code : ℕ) → Some code ≡ coded x → (i < length (printed coded cells)) × (get_or (printed coded cells) i 0 ≡ code)
   code_read code read =
-      let e : get_or (printed coded cells) i 0 ≡ code = let f = read ∙ here in cc in
+      let e : get_or (printed coded cells) i 0 ≡ code = let f = read ∙ code_there in cc in
       (omega (arith, length_codes coded cells (printed coded cells) (printed_codes coded cells printable)), e)
-
-  pub code_missing : None ≡ coded x → ⊥
-  code_missing none = let f = none ∙ here in let z : ◌≡◌ {A = ℕ} 0 1 = cc in omega arith
 
 pub length_printed : {C : Type 0} (coded : C → Option ℕ) (cells : List C) → length (printed coded cells) ≡ length cells
 length_printed coded cells = length-map cells (λ cell. unwrap_or (coded cell) 0)

@@ -11,7 +11,8 @@ use cells::{CellKind, first_unprintable};
 use recompression::table::Table;
 use rows::{MAX_CELLS, Shape};
 
-// Cells that all have a code, and of which a strip can have so many.
+// Cells that all have a code, and of which a strip can have so many. The work places stand beside them: a struct of
+// both would hold a `&mut` that the caller needs back to clear it.
 #[derive(Drop)]
 pub(crate) struct Printable<'a, K: CellKind> {
     cells: &'a [K],
@@ -28,6 +29,7 @@ impl<'a, K: CellKind> Printable<'a, K> {
         if cells.len() > MAX_CELLS {
             return Err(Refusal::TooLong);
         }
+        // No method makes an error of a `Some`.
         match first_unprintable(cells) {
             Some(place) => Err(Refusal::Unprintable { place }),
             None => Ok(Printable { cells }),
@@ -40,11 +42,9 @@ impl<'a, K: CellKind> Printable<'a, K> {
         requires { length numbers.old ≡ length self.now.cells.now }
         ensures { LeavesFiled (rows_in table.old) (printed K.coded self.now.cells.now) result (rows_in table.new) numbers.new }
     {
-        // No `zip`: a proof knows nothing of what was written through an adapter of `iter_mut`.
+        // By place, since the check knows nothing of what is written through a zipped `iter_mut`.
         for (i, cell) in self.cells.iter().enumerate() {
-            let Some(code) = cell.code() else {
-                return unreachable();
-            };
+            let code = cell.code().unwrap();
             numbers[i] = table
                 .file(0, Shape::Leaf { code })
                 .ok_or(Refusal::ShelfFull)?;
@@ -61,7 +61,8 @@ impl<'a, K: CellKind> Printable<'a, K> {
         Ok(table.settle(numbers)?)
     }
 
-    // The number of the strip, which gets its rows. A refusal leaves the rows as they were.
+    // The number of the strip, which gets its rows. A refusal leaves the rows as they were. A method of the table that
+    // takes the work to try would have to require that it can be called, and no public function requires anything.
     fn settle_or_undo(&self, table: &mut Table, numbers: &mut [u16]) -> Result<u16, Refusal>
         requires { length numbers.old ≡ length self.now.cells.now }
         ensures { SettlesOrUndoes (rows_in table.old) (printed K.coded self.now.cells.now) result (rows_in table.new) }

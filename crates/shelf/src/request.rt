@@ -2,7 +2,7 @@
 use crate::refusal::Refusal;
 use periodicity::Fragment;
 
-// What a request asks for.
+// What a request asks for. The numbers of a call stand alone, as in the rules.
 #[derive(Clone, Copy)]
 pub enum Request<'a, K> {
     // The number that cells come to.

@@ -11,6 +11,8 @@ mod sending;
 mod taking;
 mod writing;
 
+// The kind stands by its number, by which refusal 1 and the shelf file know it; that it stays is promised by each
+// call, as users are promised it.
 #[derive(Drop)]
 pub struct Shelf {
     table: Table,

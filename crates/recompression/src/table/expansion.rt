@@ -27,6 +27,7 @@ impl Table {
         ensures { Expanded (rows_in self.now) number start out.old result out.new }
     {
         let kept = usize::from(self.length_of(number));
+        // By hand, since this crate knows no fragments.
         if start > kept || out.len() > kept - start {
             return Err(OutOfStrip);
         }
@@ -45,8 +46,9 @@ impl Table {
         }
     }
 
-    // The same where the strip is known to have all the places. Only parts below the row are visited, so that
-    // the calls come to leaves.
+    // Fills `out` as `expand` does, where the strip is known to have all the places. Only parts below the row are
+    // visited, so that the calls come to leaves. Three functions call each other, and each says the same of `out`: a
+    // struct of number, start and `out` would be taken apart at each call.
     #[cycle(expand_pair_expand_repeat_expand_row)]
     fn expand_row(&self, number: u16, start: usize, out: &mut [u16])
         requires { start + length out.old ≤ (row_of (rows_in self.now) number).length }
@@ -74,11 +76,12 @@ impl Table {
     {
         let left_length = self.part_length(number, left);
         let split = left_length.saturating_sub(start).min(out.len());
-        if split > 0 {
-            self.expand_row(left, start, &mut out[0..split]);
+        let (front, back) = out.split_at_mut(split);
+        if !front.is_empty() {
+            self.expand_row(left, start, front);
         }
-        if split < out.len() {
-            self.expand_row(right, start.saturating_sub(left_length), &mut out[split..]);
+        if !back.is_empty() {
+            self.expand_row(right, start.saturating_sub(left_length), back);
         }
     }
 

@@ -1,6 +1,6 @@
 // How a shape gets its number: the first row of that shape, or a row added after the others.
 ghost use Rattle.std.specs.Prelude.{◌≡◌, take, None};
-ghost use Rattle.recompression.specs.Contents.{rows_in, number_in, rows_left};
+ghost use Rattle.recompression.specs.Contents.{Filed, rows_in, number_in, rows_left};
 ghost use Rattle.rows.specs.Filing.{alike, find, file, numbered, shape_length};
 
 use crate::table::Table;
@@ -12,6 +12,7 @@ impl Table {
     pub fn find(&self, shape: Shape) -> Option<u16>
         ensures { result ≡ find (rows_in self.now) shape }
     {
+        // The check proves that it fits; `try_from` would have an error that never comes.
         self.slots.first_of(shape).map(|index| index as u16 + 1)
     }
 
@@ -31,8 +32,7 @@ impl Table {
     // A row of that shape put after the others, made in that round, and its number; none where all slots are
     // in use.
     fn add(&mut self, round: u32, shape: Shape) -> Option<u16>
-        ensures number { result ≡ number_in (numbered round (rows_in self.old) shape None) }
-        ensures rows { rows_in self.new ≡ rows_left (rows_in self.old) (numbered round (rows_in self.old) shape None) }
+        ensures { Filed (rows_in self.old) (numbered round (rows_in self.old) shape None) result (rows_in self.new) }
     {
         let count = self.slots.count;
         if count >= MAX_ROWS {
@@ -48,11 +48,12 @@ impl Table {
     }
 
     // The number of a shape: that of the row on the table, or else of a row added for it, made in that
-    // round; none where all slots are in use.
+    // round; none where all slots are in use. A full table is the only way to no number, so that an `Option` says all.
     pub fn file(&mut self, round: u32, shape: Shape) -> Option<u16>
         ensures number { result ≡ number_in (file round (rows_in self.old) shape) }
         ensures rows { rows_in self.new ≡ rows_left (rows_in self.old) (file round (rows_in self.old) shape) }
     {
+        // No `or_else`, whose contract says nothing of the table where its closure is not called: `rows` was left open.
         match self.find(shape) {
             Some(number) => Some(number),
             None => self.add(round, shape),

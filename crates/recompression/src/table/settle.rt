@@ -20,7 +20,8 @@ pub enum Unsettled {
     Full,
 }
 
-// So many rounds are enough for a string of that many numbers.
+// So many rounds are enough for a string of that many numbers. The check proves that the cast fits; `try_from` would
+// have an error that never comes.
 fn rounds_for(size: usize) -> u32
     requires { size ≤ 65535 }
     ensures { result ≡ enough_rounds size }
@@ -51,15 +52,16 @@ impl Table {
         ensures rows { rows_in self.new ≡ (settling_by (rows_in self.old) (all_rounds (rows_in self.old) numbers.old)).rows }
     {
         let count = self.count();
-        let Some(number) = self.run_rounds(numbers) else {
+        let number = self.run_rounds(numbers);
+        if number.is_none() {
             self.truncate(count);
-            return Err(Unsettled::Full);
-        };
-        Ok(number)
+        }
+        number.ok_or(Unsettled::Full)
     }
 
     // The number of a string of numbers, which gets its rows. The work is done in the slice, which is all
-    // zeros afterwards; where it is refused the rows are as they were.
+    // zeros afterwards; where it is refused the rows are as they were. The length is tested once, here: a struct over
+    // the slice would hold the `&mut` that `fill` needs back.
     pub fn settle(&mut self, numbers: &mut [u16]) -> Result<u16, Unsettled>
         ensures answer { result ≡ (settling (rows_in self.old) numbers.old).answer }
         ensures rows { rows_in self.new ≡ (settling (rows_in self.old) numbers.old).rows }

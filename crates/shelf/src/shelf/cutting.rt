@@ -16,10 +16,8 @@ impl Shelf {
         ensures writes { Writes (part_of (rows_on self.old) number part.start part.length) (rows_on self.old) (cut_out (rows_on self.old) number part.start part.length (length work.old)) result (rows_on self.new) }
         ensures kind { self.new.kind ≡ self.old.kind }
     {
-        let Some(whole) = self.length_of(number) else {
-            return Err(Refusal::UnknownNumber);
-        };
-        if part.start > whole || part.length > whole - part.start {
+        let whole = self.length_of(number).ok_or(Refusal::UnknownNumber)?;
+        if !part.lies_within(whole) {
             return Err(Refusal::FragmentLeavesStrip);
         }
         if work.len() < part.length {

@@ -28,7 +28,7 @@ pub(super) fn expand_part(table: &Table, number: u16, start: usize, out: &mut [u
     requires { start + length out.old ≤ (row_of (rows_in table.now) number).length }
     ensures { out.new ≡ written_out (rows_in table.now) number start (length out.old) }
 {
-    let _ = table.expand(number, start, out);
+    table.expand(number, start, out).unwrap();
 }
 
 // Writes the leaf numbers of two strips, one after the other.
@@ -41,24 +41,15 @@ fn expand_both(table: &Table, left: u16, right: u16, numbers: &mut [u16])
     expand_part(table, right, 0, back);
 }
 
-// How many cells two strips have, one after the other.
-fn joint_length(table: &Table, left: u16, right: u16) -> usize
-    ensures { result ≡ (row_of (rows_in table.now) left).length + (row_of (rows_in table.now) right).length }
-{
-    usize::from(table.length_of(left)) + usize::from(table.length_of(right))
-}
-
 impl Shelf {
     // The number that the strips of two numbers come to, on a work area that the caller clears.
     fn join_on(&mut self, left: u16, right: u16, work: &mut [u16]) -> Result<u16, Refusal>
         ensures writes { Writes (strip (rows_on self.old) left ++ strip (rows_on self.old) right) (rows_on self.old) (joined_up (rows_on self.old) left right (length work.old)) result (rows_on self.new) }
         ensures kind { self.new.kind ≡ self.old.kind }
     {
-        let count = self.count();
-        if usize::from(left) > count || usize::from(right) > count {
-            return Err(Refusal::UnknownNumber);
-        }
-        let length = joint_length(&self.table, left, right);
+        let left_length = self.length_of(left).ok_or(Refusal::UnknownNumber)?;
+        let right_length = self.length_of(right).ok_or(Refusal::UnknownNumber)?;
+        let length = left_length + right_length;
         if length > MAX_CELLS {
             return Err(Refusal::TooLong);
         }

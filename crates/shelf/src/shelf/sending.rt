@@ -26,7 +26,8 @@ impl Shelf {
         }
     }
 
-    // As many requests as there are places for answers.
+    // As many requests as there are places for answers. Two lists of the caller's, as the rules have them: the answers
+    // go in sequence into the second.
     fn send_all<K: CellKind>(
         &mut self,
         requests: &[Sent<K>],
@@ -38,7 +39,7 @@ impl Shelf {
         ensures answers { map told answers.new ≡ answers_of (self.old.kind == K.NUMBER) K.coded (rows_on self.old) (calls_sent (length work.old) requests.now) }
         ensures kind { self.new.kind ≡ self.old.kind }
     {
-        // No `zip`: a proof knows nothing of what was written through an adapter of `iter_mut`.
+        // By place, since the check knows nothing of what is written through a zipped `iter_mut`.
         for (i, request) in requests.iter().enumerate() {
             answers[i] = self.perform(request, work);
         }

@@ -8,6 +8,7 @@ ghost use Rattle.shelf.specs.WritingOut.{refusal_of, writing_check, cells_after}
 use crate::refusal::Refusal;
 use crate::shelf::Shelf;
 use cells::CellKind;
+use periodicity::Fragment;
 
 impl Shelf {
     // Writes the cells given back for the codes of the places from `start` on.
@@ -17,10 +18,7 @@ impl Shelf {
         ensures { cells.new ≡ map K.given (part_of (rows_on self.now) number start (length cells.old)) }
     {
         for (i, cell) in cells.iter_mut().enumerate() {
-            let Some(code) = self.table.code_at(number, start + i) else {
-                return unreachable();
-            };
-            *cell = K::cell(code);
+            *cell = K::cell(self.table.code_at(number, start + i).unwrap());
         }
     }
 
@@ -38,10 +36,9 @@ impl Shelf {
         if !self.is_of_kind::<K>() {
             return Err(Refusal::OtherKind);
         }
-        let Some(length) = self.length_of(number) else {
-            return Err(Refusal::UnknownNumber);
-        };
-        if start > length || cells.len() > length - start {
+        let whole = self.length_of(number).ok_or(Refusal::UnknownNumber)?;
+        let length = cells.len();
+        if !(Fragment { start, length }).lies_within(whole) {
             return Err(Refusal::FragmentLeavesStrip);
         }
         self.fill(number, start, cells);

@@ -1,4 +1,4 @@
-use Rattle.std.proofs.Common.{◌+◌, ◌-◌, Some, sym, refl, subst, arith}
+use Rattle.std.proofs.Common.{◌≡◌, ◌+◌, ◌-◌, Some, sym, refl, subst, arith, rules, tests}
 use Rattle.periodicity.specs.Places.{is_place}
 use Rattle.periodicity.specs.Ranges.{Tells}
 use Rattle.periodicity.proofs.PlacesTold.{places_agree, places_told}
@@ -17,7 +17,9 @@ returns-clause-places g c =
     let self = c.args.self.now in
     let xs = g.K.Keeper.codes self.keeper.now in
     let field = self.second in
-    subst (λ p. Tells (is_place xs self.first) field.start (field.start + (field.length + 1 - self.first.length)) (Some p)) (sym c.progression.ensures)
+    let spare : c.in_ok-spare.spare ≡ field.length - self.first.length = search (rules, tests) in
+    let told = rw spare at c.progression.ensures in
+    subst (λ p. Tells (is_place xs self.first) field.start (field.start + (field.length + 1 - self.first.length)) (Some p)) (sym told)
     (places_told xs self.first field c.in_ok-first.first c.in-Some.second c.common_ahead-agreeing.result
-    self.first_lies self.second_lies c.requires.near c.if-field-pattern.false _
-    c.in_ok-first.ensures c.in-Some.ensures c.common_ahead-agreeing.ensures refl)
+    self.first_lies self.second_lies c.requires.near (search (rules, tests)) _
+    (rw spare at c.in_ok-first.ensures) (rw spare at c.in-Some.ensures) c.common_ahead-agreeing.ensures refl)

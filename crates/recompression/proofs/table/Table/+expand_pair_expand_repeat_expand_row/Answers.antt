@@ -1,57 +1,64 @@
 -- What is left to show of `expand_pair`, `expand_repeat`, `expand_row`. Assumes nothing.
 use Rattle.std.proofs.Common.{◌≡◌, ◌+◌, ◌-◌, min, length, take, drop, sym, refl, ap, ◌∙◌, arith, length-take}
 use borrow.Rule.Slice.PartMut.{put_mid}
-use Rattle.std.proofs.lemmas.Bool.{eqb-false}
+use Rattle.std.proofs.lemmas.Bool.{eqb-true, eqb-false}
 use Rattle.recompression.specs.Expansions.{part_length}
 use Rattle.recompression.specs.Tables.{in_use}
-use Rattle.recompression.proofs.ExpandFacts.{length_part, leaf_out, right_fits, front_written, front_empty, pair_out, pair_front_out, repeat_part, copied_first, copied_more, copied_all}
+use Rattle.recompression.proofs.ExpandFacts.{leaf_out, right_fits, front_written, front_empty, pair_out, pair_front_out, repeat_part, copied_first, copied_more, copied_all}
 use Rattle.recompression.proofs.LeafFacts.{part_string}
 use Rattle.recompression.proofs.SlotFacts.{row_of_some}
 use Rattle.recompression.proofs.table.Table.+expand_pair_expand_repeat_expand_row.Goals as goal
-use Rattle.recompression.proofs.table.Table.+expand_pair_expand_repeat_expand_row.Goals.{expand_pair-then-split-gt0, expand_pair-else-split-gt0}
+use Rattle.recompression.proofs.table.Table.+expand_pair_expand_repeat_expand_row.Goals.{expand_pair-then-not-is_empty, expand_pair-else-not-is_empty}
 
-pub expand_pair-expand_row-requires-then-split-out : goal.expand_pair-expand_row-requires-then-split-out
-expand_pair-expand_row-requires-then-split-out t c =
+pub expand_pair-expand_row-requires-then-not-is_empty-2 : goal.expand_pair-expand_row-requires-then-not-is_empty-2
+expand_pair-expand_row-requires-then-not-is_empty-2 t c =
     let rows = in_use c.args.self.now.slots in
     let count = length c.args.out.now in
     let split = c.min-split.result in
     let at : split ≡ min (part_length rows c.args.number c.args.left - c.args.start) count = omega arith in
-    let fits = right_fits c.args.self.now.sound.3 c.requires split at (omega arith) in
-    (omega (arith, fits.0), omega (arith, fits.1, length-take (length c.if-split-gt0.out - split) (drop split c.if-split-gt0.out)))
+    let halves = c.split_at_mut-front in
+    let some = eqb-false (length halves.result.1.now) 0 (sym c.if-not-is_empty-2.ensures) in
+    let fits = right_fits c.args.self.now.sound.3 c.requires split at (omega (arith, some, halves.ensures.back_len)) in
+    (omega (arith, fits.0), omega (arith, fits.1, halves.ensures.back_len))
 
-pub expand_pair-returns-then-split-out : goal.expand_pair-returns-then-split-out
-expand_pair-returns-then-split-out t c =
+pub expand_pair-returns-then-not-is_empty-2 : goal.expand_pair-returns-then-not-is_empty-2
+expand_pair-returns-then-not-is_empty-2 t c =
     let rows = in_use c.args.self.now.slots in
     let count = length c.args.out.now in
     let split = c.min-split.result in
     let at : split ≡ min (part_length rows c.args.number c.args.left - c.args.start) count = omega arith in
-    let out = c.if-split-gt0.out in
-    let front : take split out ≡ take split (drop c.args.start (part_string rows c.args.number c.args.left)) =
-    elim c.if-split-gt0.branch [
-      | expand_pair-then-split-gt0 w ↦
-          ap (take split) w.out-is
-          ∙ front_written c.args.self.now.sound.3 c.requires split at c.args.out.now w.expand_row.new.out _ _ (omega arith) (omega arith) w.expand_row.ensures (omega arith)
-      | expand_pair-else-split-gt0 w ↦ front_empty c.args.self.now.sound.3 c.requires split at out (omega arith)
+    let halves = c.split_at_mut-front in
+    let front : c.if-not-is_empty.front ≡ take split (drop c.args.start (part_string rows c.args.number c.args.left)) =
+    elim c.if-not-is_empty.branch [
+      | expand_pair-then-not-is_empty w ↦
+          let some = eqb-false (length halves.result.0.now) 0 (sym w.if-not-is_empty.ensures) in
+          w.front-is ∙ front_written c.args.self.now.sound.3 c.requires split at w.expand_row.new.out (length halves.result.0.now) (omega (arith, some)) (omega (arith, halves.ensures.front_len)) w.expand_row.ensures
+      | expand_pair-else-not-is_empty w ↦
+          let none = eqb-true (length halves.result.0.now) 0 (sym w.if-not-is_empty.ensures) in
+          front_empty c.args.self.now.sound.3 c.requires split at c.if-not-is_empty.front (omega (arith, halves.ensures.front_len, c.if-not-is_empty.auto.front)) (omega (arith, none, halves.ensures.front_len))
     ] in
-    pair_out c.args.self.now.sound.3 c.requires split at out c.if-split-gt0.auto.out front c.expand_row-then-split-out.new.out
-    c.saturating_sub-then-split-out.result (length (take (length out - split) (drop split out))) (length out - split)
-    (omega arith) (omega arith) (length_part out split (length out) (omega arith) ∙ ap (λ m. m - split) c.if-split-gt0.auto.out) (omega arith) c.expand_row-then-split-out.ensures
+    let some = eqb-false (length halves.result.1.now) 0 (sym c.if-not-is_empty-2.ensures) in
+    pair_out c.args.self.now.sound.3 c.requires split at c.if-not-is_empty.front c.expand_row-then-not-is_empty-2.new.out
+    c.saturating_sub-then-not-is_empty-2.result (length halves.result.1.now) front (omega (arith, some, halves.ensures.back_len)) (omega arith) (omega (arith, halves.ensures.back_len)) c.expand_row-then-not-is_empty-2.ensures
 
-pub expand_pair-returns-else-split-out : goal.expand_pair-returns-else-split-out
-expand_pair-returns-else-split-out t c =
+pub expand_pair-returns-else-not-is_empty-2 : goal.expand_pair-returns-else-not-is_empty-2
+expand_pair-returns-else-not-is_empty-2 t c =
     let rows = in_use c.args.self.now.slots in
     let count = length c.args.out.now in
     let split = c.min-split.result in
     let at : split ≡ min (part_length rows c.args.number c.args.left - c.args.start) count = omega arith in
-    let out = c.if-split-gt0.out in
-    let front : take split out ≡ take split (drop c.args.start (part_string rows c.args.number c.args.left)) =
-    elim c.if-split-gt0.branch [
-      | expand_pair-then-split-gt0 w ↦
-          ap (take split) w.out-is
-          ∙ front_written c.args.self.now.sound.3 c.requires split at c.args.out.now w.expand_row.new.out _ _ (omega arith) (omega arith) w.expand_row.ensures (omega arith)
-      | expand_pair-else-split-gt0 w ↦ front_empty c.args.self.now.sound.3 c.requires split at out (omega arith)
+    let halves = c.split_at_mut-front in
+    let front : c.if-not-is_empty.front ≡ take split (drop c.args.start (part_string rows c.args.number c.args.left)) =
+    elim c.if-not-is_empty.branch [
+      | expand_pair-then-not-is_empty w ↦
+          let some = eqb-false (length halves.result.0.now) 0 (sym w.if-not-is_empty.ensures) in
+          w.front-is ∙ front_written c.args.self.now.sound.3 c.requires split at w.expand_row.new.out (length halves.result.0.now) (omega (arith, some)) (omega (arith, halves.ensures.front_len)) w.expand_row.ensures
+      | expand_pair-else-not-is_empty w ↦
+          let none = eqb-true (length halves.result.0.now) 0 (sym w.if-not-is_empty.ensures) in
+          front_empty c.args.self.now.sound.3 c.requires split at c.if-not-is_empty.front (omega (arith, halves.ensures.front_len, c.if-not-is_empty.auto.front)) (omega (arith, none, halves.ensures.front_len))
     ] in
-    pair_front_out c.args.self.now.sound.3 c.requires split at out c.if-split-gt0.auto.out front (omega arith)
+    let none = eqb-true (length halves.result.1.now) 0 (sym c.if-not-is_empty-2.ensures) in
+    pair_front_out c.args.self.now.sound.3 c.requires split at c.if-not-is_empty.front halves.result.1.now front (omega (arith, none)) (omega (arith, none, halves.ensures.back_len))
 
 pub expand_repeat-place_in_copy-place-requires : goal.expand_repeat-place_in_copy-place-requires
 expand_repeat-place_in_copy-place-requires t c =

@@ -1,4 +1,4 @@
-use Rattle.std.proofs.Common.{◌≡◌, ℕ, ◌+◌, get_or, set, ap, ◌∙◌, arith}
+use Rattle.std.proofs.Common.{◌≡◌, ◌+◌, get_or, set, ap, ◌∙◌, arith, rules}
 use Rattle.rows.proofs.LawfulFacts.{strip_short}
 use Rattle.rows.specs.Strips.{strip}
 use Rattle.shelf.specs.Contents.{rows_on}
@@ -10,17 +10,16 @@ overflow_add-start g c =
     let shelf = c.args.self.now in
     omega (arith, strip_short (rows_on shelf) shelf.lawful c.args.number)
 
-pub unreachable-requires : goal.unreachable-requires
-unreachable-requires g c =
+pub unwrap-requires : goal.unwrap-requires
+unwrap-requires g c =
     let shelf = c.args.self.now in
     let found = code_inside (rows_on shelf) shelf.lawful c.args.number (c.args.start + c.loop-i.i) c.requires.known (omega arith) in
-    let none = c.in_default.ensures ∙ found in
-    let z : ◌≡◌ {A = ℕ} 0 1 = cc in omega arith
+    rw (c.code_at.ensures, found) (search rules)
 
 pub loop-i-preserved : goal.loop-i-preserved
 loop-i-preserved g c =
     let shelf = c.args.self.now in
     let found = code_inside (rows_on shelf) shelf.lawful c.args.number (c.args.start + c.loop-i.i) c.requires.known (omega arith) in
-    let code : c.in-Some.code ≡ get_or (strip (rows_on shelf) c.args.number) (c.args.start + c.loop-i.i) 0 = let e = c.in-Some.ensures ∙ found in cc in
+    let code : c.unwrap.result ≡ get_or (strip (rows_on shelf) c.args.number) (c.args.start + c.loop-i.i) 0 = let e = c.code_at.ensures ∙ found in let u = c.unwrap.ensures in cc in
     ap (set c.loop-i.cells c.loop-i.i) c.cell.ensures
-    ∙ filled_more g.K.CellKind.given (strip (rows_on shelf) c.args.number) c.args.start c.args.cells.now c.requires.inside c.loop-i.i c.loop-i.cells c.in-Some.code (omega arith) c.loop-i.invariant code
+    ∙ filled_more g.K.CellKind.given (strip (rows_on shelf) c.args.number) c.args.start c.args.cells.now c.requires.inside c.loop-i.i c.loop-i.cells c.unwrap.result (omega arith) c.loop-i.invariant code
