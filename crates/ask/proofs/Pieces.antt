@@ -108,6 +108,7 @@ word_at bs rest e some =
       shorter = omega arith;
     }
 
+-- the first word, by the place of its first byte and how long it is
 positive : (n : ℕ) → (n ≡ 0 → ⊥) → 0 < n
 positive n some = omega arith
 

@@ -1,6 +1,6 @@
 // The words of a line and the lines of a text, one by one.
 
-ghost use Rattle.std.specs.Prelude.{◌≡◌, ◌≤◌, length};
+ghost use Rattle.std.specs.Prelude.{◌≡◌, length};
 ghost use Rattle.std.specs.Iterator.{YieldsFirstRef, at_most};
 ghost use Rattle.ask.specs.Words.{words_left, lines_left, is_blank as blank, is_named, FirstWord, FirstLine};
 

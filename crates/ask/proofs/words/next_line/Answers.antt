@@ -6,13 +6,11 @@ use Rattle.ask.specs.Words.{is_newline}
 use Rattle.ask.proofs.Pieces.{first_line, last_line}
 use Rattle.ask.proofs.words.next_line.Goals as goal
 
--- src/words.rt:37:17
 pub returns-in-Some : goal.returns-in-Some
 returns-in-Some c =
     let at = position_from_yields_List is_newline _ _ c.position.result c.position.ensures.ran (YieldsList-from_slice c.args.text.now cc) (λ x b q k. search (rules, tests)) in
     first_line c.args.text.now c.in-Some.size (sym at ∙ c.in-Some.is)
 
--- src/words.rt:38:17
 pub returns-in-None : goal.returns-in-None
 returns-in-None c =
     let at = position_from_yields_List is_newline _ _ c.position.result c.position.ensures.ran (YieldsList-from_slice c.args.text.now cc) (λ x b q k. search (rules, tests)) in

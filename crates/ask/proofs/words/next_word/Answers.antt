@@ -8,13 +8,11 @@ use Rattle.std.proofs.lemmas.List.Folds.{length-prefix_len}
 use Rattle.ask.proofs.Pieces.{visible, no_word, first_word}
 use Rattle.ask.proofs.words.next_word.Goals as goal
 
--- src/words.rt:21:17
 pub returns-in_err-start : goal.returns-in_err-start
 returns-in_err-start c =
     let at = position_from_yields_List visible _ _ c.position.result c.position.ensures.ran (YieldsList-from_slice c.args.line.now cc) (λ x b q k. search (rules, tests)) in
     rw c.from_residual.ensures (no_word c.args.line.now (sym at ∙ c.in_err-start.was))
 
--- src/words.rt:17:1
 pub returns : goal.returns
 returns c =
     let at = position_from_yields_List visible _ _ c.position.result c.position.ensures.ran (YieldsList-from_slice c.args.line.now cc) (λ x b q k. search (rules, tests)) in
