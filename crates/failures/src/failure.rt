@@ -52,7 +52,8 @@ impl fmt::Display for Failure {
     }
 }
 
-// Ends a program: says on standard error what failed, and gives the status that tells whether anything did.
+// Ends a program: says on standard error what failed, and gives the status that tells whether anything did. Only
+// the status is promised, since the library promises nothing of what is printed.
 pub fn exit_code<R: Eprint>(rt: &R, program: &str, outcome: Result<(), Failure>) -> ExitCode
     ensures { exit_status result ≡ status_of outcome }
 {
