@@ -123,7 +123,8 @@ impl fmt::Display for Found {
 }
 
 // The records in use, parted by slashes. By the rules a record that is not in use is three zeros. The slash
-// stands between records, so the first has another mark before it.
+// stands between records, so the first has another mark before it. No Display, since it is a part of one answer's
+// text alone.
 #[tactic(auto, using(crate::proofs::Records::recording))]
 fn write_records<W: fmt::Write>(
     f: &mut fmt::Formatter<W>,

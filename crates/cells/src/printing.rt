@@ -10,7 +10,7 @@ pub fn first_unprintable<K: CellKind>(cells: &[K]) -> Option<usize>
     ensures computed { result ≡ first_unprintable K.coded cells.now }
     ensures found { FoundFirst K.coded cells.now result }
 {
-    // The rules ask for a loop over the cells with their index here, and so it is no `position`.
+    // A loop over the cells with their index, and no `position`: a form that is set for the project.
     for (i, cell) in cells.iter().enumerate() {
         if cell.code().is_none() {
             return Some(i);

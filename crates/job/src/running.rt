@@ -13,7 +13,7 @@ use std::alloc::{AllocError, Global};
 // The most bytes of a job.
 pub const MOST_BYTES: usize = 32768;
 
-// Adds the bytes of a line.
+// Adds the bytes of a line, which `Line::bytes` gives of a line alone.
 fn print(text: &mut String, line: Line) -> Result<(), AllocError>
     ensures { OnOk result (string_bytes text.new ≡ string_bytes text.old ++ line_bytes (told_in line)) }
 {

@@ -47,7 +47,8 @@ pub trait Keeper {
         ensures value { result ≡ extension_of side (codes self.now) i j }
         ensures greatest { GreatestOn side (codes self.now) i j result };
 
-    // The same of either side by its own name: the codes that agree from `i` and from `j` on, ..
+    // The same of either side by its own name, since both are promised by name: the codes that agree from `i` and
+    // from `j` on, ..
     final fn ahead(&self, i: usize, j: usize) -> Option<usize>
         ensures value { result ≡ ahead_of (codes self.now) i j }
         ensures greatest { GreatestAhead (codes self.now) i j result }

@@ -7,7 +7,7 @@ use periodicity::Fragment;
 use shelf::request::{Answer, Request, Sent};
 use shelf::shelf::Shelf;
 use std::alloc::{AllocError, Global};
-use std::fmt::Write;
+use std::fmt;
 use std::str::Split;
 
 // What a work area holds before a call.
@@ -92,12 +92,17 @@ fn cells_sent<K: Spelled + Copy + Drop>(
         .try_collect(heap)
 }
 
-fn spell_answers(heap: Global, answers: &[Answer]) -> Result<String, AllocError> {
-    let mut text = String::new(heap);
-    for answer in answers {
-        write!(text, "; {}", Told(*answer))?;
+// The answers to a list, each with a mark before it.
+#[derive(Clone, Copy)]
+struct ToldAll<'a>(&'a [Answer]);
+
+impl fmt::Display for ToldAll<'_> {
+    fn fmt<W: fmt::Write>(&self, f: &mut fmt::Formatter<W>) -> fmt::Result {
+        for answer in self.0 {
+            write!(f, "; {}", Told(*answer))?;
+        }
+        Ok(())
     }
-    Ok(text)
 }
 
 impl Bench {
@@ -128,6 +133,7 @@ impl Bench {
             .skip(1)
             .map(str::trim)
             .collect::<Vec<_>>(heap)
+            // The words that this want of memory has always had.
             .map_err(|_| anyhow!("too little memory"))?;
         // Cells in a list of their own, since requests borrow them.
         let cells = cells_sent::<K>(heap, calls.as_slice())?;
@@ -145,7 +151,7 @@ impl Bench {
             answers.as_mut_slice(),
             work.as_mut_slice(),
         );
-        let answers = spell_answers(heap, answers.as_slice())?;
+        let answers = ToldAll(answers.as_slice());
         let count = self.shelf.count();
         let said = said_of_work(work.as_slice());
         Ok(format!(in heap; "{performed} performed{answers}, {count} rows{said}")?)

@@ -56,6 +56,7 @@ impl Bench {
 
     // A sum over all rows, so that one that was altered shows.
     fn sum(&self) -> Result<String, AllocError> {
+        // A cast, since 1,024 fits.
         let total = (1..=MAX_ROWS as u16).fold(0, |total, number| match self.shelf.row(number) {
             Some(row) => mixed_row(total, row),
             None => mixed(total, 3),
@@ -75,7 +76,8 @@ impl Bench {
         Ok(format!(in self.heap; "{outcome}:{cells}")?)
     }
 
-    // What is read of a shelf; any other word writes a part out, as `write` does, since no word is refused here.
+    // What is read of a shelf. Any other word writes a part out, as `write` does, so that lines are read as they
+    // always were.
     fn read<K: Spelled + Copy + Drop>(&self, name: &str, rest: &str) -> anyhow::Result<String> {
         match name {
             "row" => self.row(rest),

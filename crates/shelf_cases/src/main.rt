@@ -12,7 +12,7 @@ use std::fs;
 use tally::Tally;
 
 // What a line `asked = expected` asks, and the answer that it expects. A line that has none expects what no shelf
-// answers, so that it is printed among those that differ.
+// answers, so that it is printed among those that differ. Lines of jobs have another mark, and a reader of their own.
 fn parts(line: &str) -> (&str, &str) {
     line.split_once(" = ").unwrap_or((line, "an answer"))
 }

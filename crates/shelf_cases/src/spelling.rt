@@ -59,7 +59,8 @@ pub(crate) fn word(text: &str) -> (&str, &str) {
     text.split_once(' ').unwrap_or((text, ""))
 }
 
-// The number that a word spells; one that is missing is read as an empty word.
+// The number that a word spells; one that is missing is read as an empty word, and so
+// refused as one.
 pub(crate) fn number<T: FromStr>(word: Option<&str>) -> anyhow::Result<T>
 where
     T::Err: Error + Drop,

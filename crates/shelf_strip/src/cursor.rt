@@ -128,7 +128,8 @@ impl View<'_> {
         if left.stands_with(right) {
             return left.reach.min(right.reach);
         }
-        // No `map_or`: a closure in a cycle of calls would need clauses of its own.
+        // Two arms, since what is told of a step speaks of the cursors in their order; and no `map_or`, since a closure
+        // in a cycle of calls would need clauses of its own.
         if left.number < right.number {
             match self.descend(right) {
                 Some(part) => self.step(left, part),
