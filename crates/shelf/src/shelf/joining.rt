@@ -41,6 +41,15 @@ fn expand_both(table: &Table, left: u16, right: u16, numbers: &mut [u16])
     expand_part(table, right, 0, back);
 }
 
+// How many cells two strips have, one after the other. A function of its own, so that a wrong sum is refused at its
+// contract.
+fn joint_length(left: usize, right: usize) -> usize
+    requires { left + right ≤ 131070 }
+    ensures { result ≡ left + right }
+{
+    left + right
+}
+
 impl Shelf {
     // The number that the strips of two numbers come to, on a work area that the caller clears.
     fn join_on(&mut self, left: u16, right: u16, work: &mut [u16]) -> Result<u16, Refusal>
@@ -49,7 +58,7 @@ impl Shelf {
     {
         let left_length = self.length_of(left).ok_or(Refusal::UnknownNumber)?;
         let right_length = self.length_of(right).ok_or(Refusal::UnknownNumber)?;
-        let length = left_length + right_length;
+        let length = joint_length(left_length, right_length);
         if length > MAX_CELLS {
             return Err(Refusal::TooLong);
         }

@@ -26,8 +26,8 @@ returns-in_err-right_length-clause-writes c =
     rw (p.1, p.2, why) (join_unknown (rows_on shelf) shelf.lawful c.args.left c.args.right (length c.args.work.now)
     (inr (unknown_told (rows_on shelf) c.args.right (sym c.in_err-right_length.ensures.ok_part ∙ c.length_of-2.ensures))))
 
-pub overflow_add-length : goal.overflow_add-length
-overflow_add-length c =
+pub joint_length-length-requires : goal.joint_length-length-requires
+joint_length-length-requires c =
     let shelf = c.args.self.now in
     let left = known_told (rows_on shelf) shelf.lawful c.args.left c.in_ok-left_length.left_length (sym c.in_ok-left_length.ensures.ok_part ∙ c.length_of.ensures) in
     let right = known_told (rows_on shelf) shelf.lawful c.args.right c.in_ok-right_length.right_length (sym c.in_ok-right_length.ensures.ok_part ∙ c.length_of-2.ensures) in
