@@ -1,11 +1,11 @@
 -- The row under a cursor is known, and its parts have the lengths that are read.
 use Rattle.std.proofs.Common.{length, sym, ap, ◌∙◌, subst, ap₂, arith}
-use Rattle.rows.specs.declared.Shape.TheVariants.{Leaf, Pair, Repeat}
+use Rattle.rows.specs.declared.Shape.TheVariants.{Pair, Repeat}
 use Rattle.rows.specs.Strips.{strip}
 use Rattle.shelf.specs.Contents.{rows_on}
 use Rattle.shelf_strip.specs.Cursors.{in_pair, GoesOn}
 use Rattle.shelf_strip.specs.Sides.{first_of, second_of}
-use Rattle.shelf_strip.proofs.CursorFacts.{shape_read, row_there, pair_lengths, goes_in_pair, copy_some, goes_in_copies}
+use Rattle.shelf_strip.proofs.CursorFacts.{shape_read, pair_lengths, goes_in_pair, copy_some, goes_in_copies}
 use Rattle.shelf_strip.proofs.SeenFacts.{length_seen}
 use Rattle.shelf_strip.proofs.cursor.View.descend.Goals as goal
 

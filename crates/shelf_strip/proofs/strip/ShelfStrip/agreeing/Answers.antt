@@ -1,22 +1,12 @@
 -- Each turn counts what a step finds, until the first codes differ or no more are left.
-use Rattle.std.proofs.Common.{◌+◌, drop, sym, subst, arith}
+use Rattle.std.proofs.Common.{drop, arith}
 use Rattle.periodicity.specs.Agreement.{common}
 use Rattle.periodicity.proofs.Agreements.{count_ahead_ends}
 use Rattle.shelf.specs.Contents.{rows_on}
-use Rattle.shelf_strip.specs.Cursors.{Stands}
 use Rattle.shelf_strip.specs.Sides.{seen}
-use Rattle.shelf_strip.proofs.CountFacts.{stands_at, step_fits, step_counts, step_stops}
+use Rattle.shelf_strip.proofs.CountFacts.{step_fits, step_counts, step_stops}
 use Rattle.shelf_strip.proofs.SeenFacts.{length_seen}
 use Rattle.shelf_strip.proofs.strip.ShelfStrip.agreeing.Goals as goal
-
-pub step-more-requires : goal.step-more-requires
-step-more-requires c =
-    let rows = rows_on c.args.self.now.shelf.now in
-    let at = stands_at c.args.side rows c.args.self.now.number c.len-len.result c.len-len.ensures in
-    record {
-      left = subst (Stands c.args.side rows) (sym c.at-left.ensures) (at (c.args.i + c.loop-agreed.agreed) (omega arith));
-      right = subst (Stands c.args.side rows) (sym c.at-right.ensures) (at (c.args.j + c.loop-agreed.agreed) (omega arith));
-    }
 
 pub returns-then-more-eq0 : goal.returns-then-more-eq0
 returns-then-more-eq0 c =
