@@ -91,9 +91,9 @@ pub(crate) struct View<'a> {
 impl View<'_> {
     // The cursor, moved down into the part under its place; none for a leaf.
     #[tactic(auto, using(crate::proofs::CursorFacts::shape_read, crate::proofs::CursorFacts::row_there))]
-    fn descend(&self, cursor: Cursor) -> Option<Cursor>
-        requires { Stands self.now.side (rows_on self.now.shelf.now) cursor }
-        ensures { Descends self.now.side (rows_on self.now.shelf.now) cursor result }
+    fn descend(self, cursor: Cursor) -> Option<Cursor>
+        requires { Stands self.side (rows_on self.shelf.now) cursor }
+        ensures { Descends self.entry.side (rows_on self.entry.shelf.now) cursor result }
     {
         let row = self.shelf.row(cursor.number)?;
         match row.shape {
@@ -120,10 +120,10 @@ impl View<'_> {
     // How many codes from two cursors on are known to agree at once: none only where the first ones differ. The
     // cursor with the greater number goes down, until both stand at the same place of one number's strip.
     #[tactic(auto, using(crate::proofs::StepFacts::steps_same, crate::proofs::StepFacts::apart_right, crate::proofs::StepFacts::apart_left))]
-    pub(crate) fn step(&self, left: Cursor, right: Cursor) -> usize
-        requires left { Stands self.now.side (rows_on self.now.shelf.now) left }
-        requires right { Stands self.now.side (rows_on self.now.shelf.now) right }
-        ensures { Steps self.now.side (rows_on self.now.shelf.now) left right result }
+    pub(crate) fn step(self, left: Cursor, right: Cursor) -> usize
+        requires left { Stands self.side (rows_on self.shelf.now) left }
+        requires right { Stands self.side (rows_on self.shelf.now) right }
+        ensures { Steps self.entry.side (rows_on self.entry.shelf.now) left right result }
     {
         if left.stands_with(right) {
             return left.reach.min(right.reach);
