@@ -100,17 +100,19 @@ module _ {C : Type 0} (coded : C → Option ℕ) (rows : List Row) (cells : List
           (printing_lawful (first_unprintable coded cells) (leb-true (length cells) 65535 short))
       by_length (inr long) = subst (λ t. Lawful t.rows) (sym (cond-false (leb (length cells) 65535) (printing coded rows cells places (first_unprintable coded cells)) (refusing rows (refused 2)) long)) law
 
--- what was taken and is written out has the same cells, also when rows were added since
+-- the number that was answered for taken cells is known, and its strip has the same cells, also when rows were added
+-- since
 pub written_back : {C : Type 0} (coded : C → Option ℕ) (has : ℕ → Bool) (given : ℕ → C) (same : C → C → Type 0) → KindLaws coded has given same
     → (same_kind : Bool) (rows : List Row) (cells : List C) (places : ℕ) → Lawful rows → (n : ℕ) → (taken same_kind coded rows cells places).answer ≡ answered n
-    → (more : List Row) → AllZip same cells (map given (strip ((taken same_kind coded rows cells places).rows ++ more) n))
+    → (more : List Row) → (n ≤ length ((taken same_kind coded rows cells places).rows ++ more)) × AllZip same cells (map given (strip ((taken same_kind coded rows cells places).rows ++ more) n))
 written_back coded has given same laws same_kind rows cells places law n answer more =
     let is = taken_stands coded rows cells places law same_kind n answer in
     let codes = printed coded cells in
     let codes_are = printed_codes coded cells is.0 in
     let later = stands_append (taken same_kind coded rows cells places).rows more codes n is.1 in
+    (later.known,
     subst (λ xs. AllZip same cells (map given xs)) (sym later.writes)
-    (same_from_codes coded has given same laws cells (map given codes) codes codes codes_are (codes_given coded has given same laws codes (has_codes coded has given same laws cells codes codes_are)) refl)
+    (same_from_codes coded has given same laws cells (map given codes) codes codes codes_are (codes_given coded has given same laws codes (has_codes coded has given same laws cells codes codes_are)) refl))
 
 -- joining, check by check
 module _ (rows : List Row) (left right places : ℕ) where

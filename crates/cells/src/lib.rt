@@ -24,7 +24,7 @@ pub use day::Day;
 pub use glyph::Glyph;
 pub use printing::first_unprintable;
 
-pub trait CellKind: Sized {
+pub trait CellKind: Sized + Drop {
     // The number of the kind.
     const NUMBER: u8;
 

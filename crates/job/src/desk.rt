@@ -27,7 +27,7 @@ pub(crate) struct Desk {
     shelf: Shelf,
     tray: Vec<Glyph>,
     work: [u16; WORK_PLACES],
-    ghost of_glyphs: { shelf.kind ≡ 1 },
+    ghost of_glyphs: { kind_of shelf ≡ 1 },
 }
 
 impl Desk {

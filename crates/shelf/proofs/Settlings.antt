@@ -1,9 +1,10 @@
 -- From the rounds on leaf numbers to the strip that settles, and to what the book tells of it.
 -- Assumes nothing.
-use Rattle.std.proofs.Common.{◌≡◌, ℕ, ◌<◌, ◌≤◌, ltb, List, ◌++◌, map, length, take, Some, None, Ok, Err, Option, Result, sym, refl, ap, ◌∙◌, subst, arith}
+use Rattle.std.proofs.Common.{◌≡◌, ℕ, ◌+◌, ◌<◌, ◌≤◌, ltb, leb, List, ◌++◌, map, length, take, Some, None, Ok, Err, Option, Result, sym, refl, ap, ◌∙◌, subst, arith}
 use lib.ListN.{length-map}
 use Rattle.std.proofs.lemmas.List.{take-append-le, take_all}
-use Rattle.std.proofs.lemmas.Bool.{cond-true, cond-false, lt-ltb, le-ltb}
+use Rattle.std.proofs.lemmas.Bool.{cond-true, cond-false, lt-ltb, le-ltb, le-leb}
+use Rattle.std.proofs.lemmas.List.Elements.{length_all_zip}
 use Rattle.std.specs.List.{AllZip}
 use Rattle.book.specs.Calls.{answered, refused, Turn, refusing, settling, filing}
 use Rattle.book.proofs.CallFacts.{Stays}
@@ -18,7 +19,8 @@ use Rattle.recompression.specs.Settling.{all_rounds, settling_by}
 use Rattle.shelf.specs.declared.refusal.Refusal.{Refusal}
 use Rattle.shelf.specs.declared.refusal.Refusal.TheVariants.{WorkAreaTooShort}
 use Rattle.shelf.specs.Leaves.{LeavesFiled, SettlesAs, SettlesOrUndoes}
-use Rattle.shelf.specs.Refusals.{refusal_for, refusal_told, ComesTo, WrittenBack, StaysWritten}
+use Rattle.shelf.specs.Refusals.{refusal_for, refusal_told, ComesTo, StaysWritten}
+use Rattle.shelf.specs.WritingOut.{WrittenBack, WritesBack}
 
 -- an answer of the rounds as the shelf gives it
 abbrev pub for_shelf : Result ℕ Unsettled → Result ℕ Refusal
@@ -87,10 +89,22 @@ comes_by r rows t u same comes = subst (λ v. ComesTo r rows v) (sym same) comes
 pub comes_refused : (e : Refusal) (old rows : List Row) (t : Turn) → t ≡ refusing old (refusal_told e) → rows ≡ old → ComesTo (Err e) rows t
 comes_refused e old rows t is same = (ap (λ u. u.answer) (sym is), same ∙ ap (λ u. u.rows) (sym is))
 
+-- cells that a known number's strip has are written out again
+writes_back : {C : Type 0} (same : C → C → Type 0) (given : ℕ → C) (rows : List Row) (cells : List C) (n : ℕ) (old : List C) → n ≤ length rows → AllZip same cells (map given (strip rows n)) → length old ≡ length cells
+    → WritesBack same given rows cells n old
+writes_back same given rows cells n old known agree room =
+    let fits : length old ≡ length (strip rows n) = room ∙ length_all_zip same cells (map given (strip rows n)) agree ∙ length-map (strip rows n) given in
+    record {
+      allowed = cond-true (leb n (length rows)) _ _ (le-leb n (length rows) known) ∙ cond-true (leb (0 + length old) (length (strip rows n))) _ _ (le-leb (0 + length old) (length (strip rows n)) (omega (arith, fits)));
+      same_cells = subst (λ xs. AllZip same cells (map given xs)) (sym (take_all (length old) (strip rows n) (omega (arith, fits)))) agree;
+    }
+
 -- what the book says of an answered take holds of the call's result
 pub back_from : {C : Type 0} (same : C → C → Type 0) (given : ℕ → C) (cells : List C) (r : Result ℕ Refusal) (rows : List Row) (t : Turn) → ComesTo r rows t
-    → ((n : ℕ) → t.answer ≡ answered n → (more : List Row) → AllZip same cells (map given (strip (t.rows ++ more) n))) → WrittenBack same given rows cells r
-back_from same given cells (Ok n) rows t comes back = λ more. subst (λ rs. AllZip same cells (map given (strip (rs ++ more) n))) (sym comes.1) (back n (sym comes.0) more)
+    → ((n : ℕ) → t.answer ≡ answered n → (more : List Row) → (n ≤ length (t.rows ++ more)) × AllZip same cells (map given (strip (t.rows ++ more) n))) → WrittenBack same given rows cells r
+back_from same given cells (Ok n) rows t comes back = λ more old room.
+    subst (λ rs. WritesBack same given (rs ++ more) cells n old) (sym comes.1)
+    (let stands = back n (sym comes.0) more in writes_back same given (t.rows ++ more) cells n old stands.0 stands.1 room)
 back_from same given cells (Err e) rows t comes back = tt
 
 -- the same of codes, for joining and cutting

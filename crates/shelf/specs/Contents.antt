@@ -1,9 +1,13 @@
--- The rows on a shelf. Assumes nothing.
+-- The kind and the rows of a shelf. Assumes nothing.
 use Rattle.std.specs.Prelude.{ℕ, cond, List, length, Some, None, Option, nat_le, nat_lt, slice_index}
 use Rattle.rows.specs.declared.Row.{Row}
 use Rattle.rows.specs.Strips.{strip}
 use Rattle.recompression.specs.Contents.{rows_in}
 use Rattle.shelf.specs.declared.shelf.Shelf.{Shelf}
+
+-- the number of the kind of its cells
+abbrev pub kind_of : Shelf → ℕ
+kind_of s = s.kind
 
 abbrev pub rows_on : Shelf → List Row
 rows_on s = rows_in s.table

@@ -62,11 +62,6 @@ told (Err e) = refusal_told e
 abbrev pub ComesTo : Result ℕ Refusal → List Row → Turn → Type 0
 ComesTo r rows t = (told r ≡ t.answer) × (rows ≡ t.rows)
 
--- what is written out for the number answered, now and when rows have been added, has the same cells
-abbrev pub WrittenBack : {C : Type 0} → (C → C → Type 0) → (ℕ → C) → List Row → List C → Result ℕ Refusal → Type 0
-WrittenBack same given rows cells (Ok n) = (more : List Row) → AllZip same cells (map given (strip (rows ++ more) n))
-WrittenBack same given rows cells (Err e) = Unit {0}
-
 -- the number answered writes these codes, now and when rows have been added
 abbrev pub StaysWritten : List ℕ → List Row → Result ℕ Refusal → Type 0
 StaysWritten codes rows (Ok n) = (more : List Row) → strip (rows ++ more) n ≡ codes

@@ -4,6 +4,7 @@ use Rattle.book.specs.Calls.{Call, Answer, taking, joining, cutting}
 use Rattle.book.specs.Laws.{OfKind, OneNumber}
 use Rattle.book.specs.Runs as book
 use Rattle.rows.specs.declared.Row.{Row}
+use Rattle.rows.specs.Lawful.{Lawful}
 use Rattle.shelf.specs.declared.request.Request.{Request}
 use Rattle.shelf.specs.declared.request.Request.TheVariants.{Take, Join, Cut}
 use Rattle.shelf.specs.declared.request.Sent.{Sent}
@@ -23,16 +24,18 @@ sent_with area s = record { call = call_of s.request; places = min s.places area
 abbrev pub calls_sent : {C : Type 0} → ℕ → List (Sent C) → List (book.Sent C)
 calls_sent area requests = map (sent_with area) requests
 
--- calls that go on with a history of calls on a new shelf of the kind: the rows are those of the book run on the
--- whole history, and the law holds of all its answers, earlier and later ones
-pub record GoesOn {C : Type 0} (coded : C → Option ℕ) (given : ℕ → C) (same : C → C → Type 0) (past calls : List (book.Sent C)) (answers : List Answer) (rows : List Row) : Type 0 where
-  pub rows_told : rows ≡ book.rows_after true coded [] (past ++ calls)
-  pub law : OneNumber same (book.answers_of true coded [] past ++ answers) (book.strips_of true coded given [] (past ++ calls))
+-- calls that go on with a history of calls on a shelf of the kind that began with the rows `start`: the rows are
+-- those of the book run on the whole history, and the law holds of all its answers, earlier and later ones
+pub record GoesOn {C : Type 0} (coded : C → Option ℕ) (given : ℕ → C) (same : C → C → Type 0) (start : List Row) (past calls : List (book.Sent C)) (answers : List Answer) (rows : List Row) : Type 0 where
+  pub rows_told : rows ≡ book.rows_after true coded start (past ++ calls)
+  pub law : OneNumber same (book.answers_of true coded start past ++ answers) (book.strips_of true coded given start (past ++ calls))
 
--- they do so whichever history it was that left the rows at entry on a shelf of the kind
-abbrev pub AnyHistory : {C : Type 0} → (C → Option ℕ) → (ℕ → C) → (C → C → Type 0) → Bool → List Row → List (book.Sent C) → List Answer → List Row → Type 0
-AnyHistory {C} coded given same same_kind before calls answers after =
-    (past : List (book.Sent C)) → same_kind ≡ true → before ≡ book.rows_after true coded [] past → GoesOn coded given same past calls answers after
+-- they do so whichever history it was that left the rows at entry on a shelf of the kind, and with whichever lawful
+-- rows of the kind it began: with none on a new shelf
+abbrev pub AnyHistory : {C : Type 0} → (C → Option ℕ) → (ℕ → Bool) → (ℕ → C) → (C → C → Type 0) → Bool → List Row → List (book.Sent C) → List Answer → List Row → Type 0
+AnyHistory {C} coded has given same same_kind before calls answers after =
+    (start : List Row) (past : List (book.Sent C)) → Lawful start → OfKind has start → same_kind ≡ true → before ≡ book.rows_after true coded start past
+    → GoesOn coded given same start past calls answers after
 
 -- calls sent to a shelf, with `count` places for their answers: its rows and the answers are those of the book, and
 -- the other places stay as they were. Rows of the kind stay of it, and then the law of one number holds of the
@@ -43,7 +46,7 @@ pub record SentTo {C : Type 0} (coded : C → Option ℕ) (has : ℕ → Bool) (
   pub others : drop count new ≡ drop count old
   pub kept : OfKind has before → OfKind has after
   pub law : OfKind has before → OneNumber same (map told (take count new)) (book.strips_of same_kind coded given before calls)
-  pub history : AnyHistory coded given same same_kind before calls (map told (take count new)) after
+  pub history : AnyHistory coded has given same same_kind before calls (map told (take count new)) after
 
 -- calls sent to a new shelf of the kind: the same by a book that begins with no rows, with nothing assumed
 pub record Begun {C : Type 0} (coded : C → Option ℕ) (has : ℕ → Bool) (given : ℕ → C) (same : C → C → Type 0) (calls : List (book.Sent C)) (count : ℕ) (old new : List (Result ℕ Refusal)) (after : List Row) : Type 0 where

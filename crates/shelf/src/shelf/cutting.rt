@@ -1,7 +1,7 @@
 // Cutting: the number that a part of a strip comes to.
 ghost use Rattle.std.specs.Prelude.{◌≡◌, length, replicate};
 ghost use Rattle.book.specs.Calls.{cut_out, part_of};
-ghost use Rattle.shelf.specs.Contents.{rows_on};
+ghost use Rattle.shelf.specs.Contents.{kind_of, rows_on};
 ghost use Rattle.shelf.specs.Refusals.{ComesTo, KindKept, StaysWritten, Writes};
 
 use crate::refusal::Refusal;
@@ -14,7 +14,7 @@ impl Shelf {
     // The number that a part of a number's strip comes to, on a work area that the caller clears.
     fn cut_on(&mut self, number: u16, part: Fragment, work: &mut [u16]) -> Result<u16, Refusal>
         ensures writes { Writes (part_of (rows_on self.old) number part.start part.length) (rows_on self.old) (cut_out (rows_on self.old) number part.start part.length (length work.old)) result (rows_on self.new) }
-        ensures kind { self.new.kind ≡ self.old.kind }
+        ensures kind { kind_of self.new ≡ kind_of self.old }
     {
         let whole = self.length_of(number).ok_or(Refusal::UnknownNumber)?;
         if !part.lies_within(whole) {
@@ -32,7 +32,7 @@ impl Shelf {
     pub fn cut(&mut self, number: u16, part: Fragment, work: &mut [u16]) -> Result<u16, Refusal>
         ensures outcome { ComesTo result (rows_on self.new) (cut_out (rows_on self.old) number part.start part.length (length work.old)) }
         ensures kept { KindKept (rows_on self.old) (rows_on self.new) }
-        ensures kind { self.new.kind ≡ self.old.kind }
+        ensures kind { kind_of self.new ≡ kind_of self.old }
         ensures cleared { work.new ≡ replicate (length work.old) 0 }
         ensures back { StaysWritten (part_of (rows_on self.old) number part.start part.length) (rows_on self.new) result }
     {

@@ -6,7 +6,7 @@ ghost use Rattle.recompression.specs.Expansions.{written_out};
 ghost use Rattle.recompression.specs.Settling.{all_rounds};
 ghost use Rattle.rows.specs.Filing.{row_of};
 ghost use Rattle.rows.specs.Strips.{strip};
-ghost use Rattle.shelf.specs.Contents.{rows_on};
+ghost use Rattle.shelf.specs.Contents.{kind_of, rows_on};
 ghost use Rattle.shelf.specs.Refusals.{ComesTo, KindKept, StaysWritten, Writes};
 
 use crate::refusal::Refusal;
@@ -54,7 +54,7 @@ impl Shelf {
     // The number that the strips of two numbers come to, on a work area that the caller clears.
     fn join_on(&mut self, left: u16, right: u16, work: &mut [u16]) -> Result<u16, Refusal>
         ensures writes { Writes (strip (rows_on self.old) left ++ strip (rows_on self.old) right) (rows_on self.old) (joined_up (rows_on self.old) left right (length work.old)) result (rows_on self.new) }
-        ensures kind { self.new.kind ≡ self.old.kind }
+        ensures kind { kind_of self.new ≡ kind_of self.old }
     {
         let left_length = self.length_of(left).ok_or(Refusal::UnknownNumber)?;
         let right_length = self.length_of(right).ok_or(Refusal::UnknownNumber)?;
@@ -75,7 +75,7 @@ impl Shelf {
     pub fn join(&mut self, left: u16, right: u16, work: &mut [u16]) -> Result<u16, Refusal>
         ensures outcome { ComesTo result (rows_on self.new) (joined_up (rows_on self.old) left right (length work.old)) }
         ensures kept { KindKept (rows_on self.old) (rows_on self.new) }
-        ensures kind { self.new.kind ≡ self.old.kind }
+        ensures kind { kind_of self.new ≡ kind_of self.old }
         ensures cleared { work.new ≡ replicate (length work.old) 0 }
         ensures back { StaysWritten (strip (rows_on self.old) left ++ strip (rows_on self.old) right) (rows_on self.new) result }
     {

@@ -1,7 +1,7 @@
 // A new shelf, and what can be read of one.
 ghost use Rattle.std.specs.Prelude.{◌≡◌, [], length};
 ghost use Rattle.recompression.specs.Contents.{row_at};
-ghost use Rattle.shelf.specs.Contents.{rows_on, length_at, code_at};
+ghost use Rattle.shelf.specs.Contents.{kind_of, rows_on, length_at, code_at};
 
 use crate::shelf::Shelf;
 use cells::CellKind;
@@ -12,7 +12,7 @@ impl Shelf {
     // A new shelf of a kind: 1,024 blank rows, none in use.
     pub fn new<K: CellKind>() -> Shelf
         ensures rows { rows_on result ≡ [] }
-        ensures kind { result.kind ≡ K.NUMBER }
+        ensures kind { kind_of result ≡ K.NUMBER }
     {
         Shelf {
             table: Table::new(),
@@ -22,7 +22,7 @@ impl Shelf {
 
     // The number of the kind of its cells.
     pub fn kind_number(&self) -> u8
-        ensures { result ≡ self.now.kind }
+        ensures { result ≡ kind_of self.now }
     {
         self.kind
     }

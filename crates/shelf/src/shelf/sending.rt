@@ -2,7 +2,7 @@
 ghost use Rattle.std.specs.Prelude.{◌≡◌, min, map, length, take, replicate, ◌==◌};
 ghost use Rattle.book.specs.Calls.{turn};
 ghost use Rattle.book.specs.Runs.{rows_after, answers_of};
-ghost use Rattle.shelf.specs.Contents.{rows_on};
+ghost use Rattle.shelf.specs.Contents.{kind_of, rows_on};
 ghost use Rattle.shelf.specs.Refusals.{told, ComesTo};
 ghost use Rattle.shelf.specs.Sending.{Begun, SentTo, call_of, calls_sent};
 
@@ -14,8 +14,8 @@ use cells::CellKind;
 impl Shelf {
     // One request, as if it had been called with its places, at most those there are.
     fn perform<K: CellKind>(&mut self, sent: &Sent<K>, work: &mut [u16]) -> Answer
-        ensures outcome { ComesTo result (rows_on self.new) (turn (self.old.kind == K.NUMBER) K.coded (rows_on self.old) (call_of sent.now.request) (min sent.now.places (length work.old))) }
-        ensures kind { self.new.kind ≡ self.old.kind }
+        ensures outcome { ComesTo result (rows_on self.new) (turn (kind_of self.old == K.NUMBER) K.coded (rows_on self.old) (call_of sent.now.request) (min sent.now.places (length work.old))) }
+        ensures kind { kind_of self.new ≡ kind_of self.old }
     {
         let places = sent.places.min(work.len());
         let area = &mut work[..places];
@@ -35,9 +35,9 @@ impl Shelf {
         work: &mut [u16],
     )
         requires { length answers.old ≡ length requests.now }
-        ensures rows { rows_on self.new ≡ rows_after (self.old.kind == K.NUMBER) K.coded (rows_on self.old) (calls_sent (length work.old) requests.now) }
-        ensures answers { map told answers.new ≡ answers_of (self.old.kind == K.NUMBER) K.coded (rows_on self.old) (calls_sent (length work.old) requests.now) }
-        ensures kind { self.new.kind ≡ self.old.kind }
+        ensures rows { rows_on self.new ≡ rows_after (kind_of self.old == K.NUMBER) K.coded (rows_on self.old) (calls_sent (length work.old) requests.now) }
+        ensures answers { map told answers.new ≡ answers_of (kind_of self.old == K.NUMBER) K.coded (rows_on self.old) (calls_sent (length work.old) requests.now) }
+        ensures kind { kind_of self.new ≡ kind_of self.old }
     {
         // By place, since the check knows nothing of what is written through a zipped `iter_mut`.
         for (i, request) in requests.iter().enumerate() {
@@ -56,8 +56,8 @@ impl Shelf {
         work: &mut [u16],
     ) -> usize
         ensures performed { result ≡ min (length requests.now) (length answers.old) }
-        ensures sent { SentTo K.coded K.has K.given K.same (self.old.kind == K.NUMBER) (rows_on self.old) (calls_sent (length work.old) (take result requests.now)) result answers.old answers.new (rows_on self.new) }
-        ensures kind { self.new.kind ≡ self.old.kind }
+        ensures sent { SentTo K.coded K.has K.given K.same (kind_of self.old == K.NUMBER) (rows_on self.old) (calls_sent (length work.old) (take result requests.now)) result answers.old answers.new (rows_on self.new) }
+        ensures kind { kind_of self.new ≡ kind_of self.old }
         ensures cleared { work.new ≡ replicate (length work.old) 0 }
     {
         let work = WorkArea(work);
@@ -74,7 +74,7 @@ impl Shelf {
         work: &mut [u16],
     ) -> Shelf
         ensures begun { let count = min (length requests.now) (length answers.old) in Begun K.coded K.has K.given K.same (calls_sent (length work.old) (take count requests.now)) count answers.old answers.new (rows_on result) }
-        ensures kind { result.kind ≡ K.NUMBER }
+        ensures kind { kind_of result ≡ K.NUMBER }
         ensures cleared { work.new ≡ replicate (length work.old) 0 }
     {
         let mut shelf = Shelf::new::<K>();

@@ -2,8 +2,9 @@
 ghost use Rattle.std.specs.Prelude.{◌≡◌, length, replicate, ◌==◌};
 ghost use Rattle.book.specs.Calls.{taken};
 ghost use Rattle.book.specs.Laws.{OfKind};
-ghost use Rattle.shelf.specs.Contents.{rows_on};
-ghost use Rattle.shelf.specs.Refusals.{ComesTo, WrittenBack};
+ghost use Rattle.shelf.specs.Contents.{kind_of, rows_on};
+ghost use Rattle.shelf.specs.Refusals.{ComesTo};
+ghost use Rattle.shelf.specs.WritingOut.{WrittenBack};
 
 use crate::printable::Printable;
 use crate::refusal::Refusal;
@@ -14,15 +15,15 @@ use cells::CellKind;
 impl Shelf {
     // Whether its cells are of this kind.
     pub(super) fn is_of_kind<K: CellKind>(&self) -> bool
-        ensures { result ≡ (self.now.kind == K.NUMBER) }
+        ensures { result ≡ (kind_of self.now == K.NUMBER) }
     {
         self.kind == K::NUMBER
     }
 
     // The number that the cells come to, on a work area that the caller clears.
     fn take_on<K: CellKind>(&mut self, cells: &[K], work: &mut [u16]) -> Result<u16, Refusal>
-        ensures outcome { ComesTo result (rows_on self.new) (taken (self.old.kind == K.NUMBER) K.coded (rows_on self.old) cells.now (length work.old)) }
-        ensures kind { self.new.kind ≡ self.old.kind }
+        ensures outcome { ComesTo result (rows_on self.new) (taken (kind_of self.old == K.NUMBER) K.coded (rows_on self.old) cells.now (length work.old)) }
+        ensures kind { kind_of self.new ≡ kind_of self.old }
     {
         if !self.is_of_kind::<K>() {
             return Err(Refusal::OtherKind);
@@ -33,8 +34,8 @@ impl Shelf {
     // The number that the cells come to by the rounds. What is written out for that number, now or later,
     // has the same cells.
     pub fn take<K: CellKind>(&mut self, cells: &[K], work: &mut [u16]) -> Result<u16, Refusal>
-        ensures outcome { ComesTo result (rows_on self.new) (taken (self.old.kind == K.NUMBER) K.coded (rows_on self.old) cells.now (length work.old)) }
-        ensures kind { self.new.kind ≡ self.old.kind }
+        ensures outcome { ComesTo result (rows_on self.new) (taken (kind_of self.old == K.NUMBER) K.coded (rows_on self.old) cells.now (length work.old)) }
+        ensures kind { kind_of self.new ≡ kind_of self.old }
         ensures cleared { work.new ≡ replicate (length work.old) 0 }
         ensures kept { OfKind K.has (rows_on self.old) → OfKind K.has (rows_on self.new) }
         ensures back { WrittenBack K.same K.given (rows_on self.new) cells.now result }

@@ -2,7 +2,7 @@
 ghost use Rattle.std.specs.Prelude.{◌≡◌, ◌+◌, ◌≤◌, map, length, ◌==◌};
 ghost use Rattle.book.specs.Calls.{part_of};
 ghost use Rattle.rows.specs.Strips.{strip};
-ghost use Rattle.shelf.specs.Contents.{rows_on};
+ghost use Rattle.shelf.specs.Contents.{kind_of, rows_on};
 ghost use Rattle.shelf.specs.WritingOut.{refusal_of, writing_check, cells_after};
 
 use crate::refusal::Refusal;
@@ -12,7 +12,7 @@ use periodicity::Fragment;
 
 impl Shelf {
     // Writes the cells given back for the codes of the places from `start` on.
-    fn fill<K: CellKind + Drop>(&self, number: u16, start: usize, cells: &mut [K])
+    fn fill<K: CellKind>(&self, number: u16, start: usize, cells: &mut [K])
         requires known { number ≤ length (rows_on self.now) }
         requires inside { start + length cells.old ≤ length (strip (rows_on self.now) number) }
         ensures { cells.new ≡ map K.given (part_of (rows_on self.now) number start (length cells.old)) }
@@ -24,14 +24,14 @@ impl Shelf {
 
     // Fills the list with the cells of a number's strip from `start` on. A refusal leaves the list as it
     // was.
-    pub fn write_out<K: CellKind + Drop>(
+    pub fn write_out<K: CellKind>(
         &self,
         number: u16,
         start: usize,
         cells: &mut [K],
     ) -> Result<(), Refusal>
-        ensures outcome { refusal_of result ≡ writing_check (self.now.kind == K.NUMBER) (rows_on self.now) number start (length cells.old) }
-        ensures written { cells.new ≡ cells_after K.given (writing_check (self.now.kind == K.NUMBER) (rows_on self.now) number start (length cells.old)) (rows_on self.now) number start cells.old }
+        ensures outcome { refusal_of result ≡ writing_check (kind_of self.now == K.NUMBER) (rows_on self.now) number start (length cells.old) }
+        ensures written { cells.new ≡ cells_after K.given (writing_check (kind_of self.now == K.NUMBER) (rows_on self.now) number start (length cells.old)) (rows_on self.now) number start cells.old }
     {
         if !self.is_of_kind::<K>() {
             return Err(Refusal::OtherKind);

@@ -32,5 +32,5 @@ returns-clause-sent g c =
       kept = λ of_kind. subst (OfKind K.has) (sym c.send_all.ensures.rows) (ran same_kind K.coded K.has K.given K.same kind_laws (rows_on shelf) shelf.lawful of_kind sents).of_kind;
       law = λ of_kind. subst (λ xs. OneNumber K.same xs (strips_of same_kind K.coded K.given (rows_on shelf) sents)) (sym told_are)
           (one_number_of_run same_kind K.coded K.has K.given K.same kind_laws (rows_on shelf) shelf.lawful of_kind sents);
-      history = λ past same is. goes_on K.coded K.has K.given K.same kind_laws same_kind (rows_on shelf) past sents _ _ same is c.send_all.ensures.rows told_are;
+      history = λ start past lawful of_kind same is. goes_on K.coded K.has K.given K.same kind_laws same_kind (rows_on shelf) start past sents _ _ lawful of_kind same is c.send_all.ensures.rows told_are;
     }
