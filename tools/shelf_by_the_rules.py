@@ -214,13 +214,24 @@ def call(model, kind, text, most_places=None):
         return refused.text
 
 
-def send(model, kind, text):
+def answers_to(model, kind, text):
+    """How many calls of a list are performed, and the answers, each with a mark before it."""
     head, *calls = (part.strip() for part in text.split("|"))
     capacity, places = (int(word) for word in head.split())
     performed = min(capacity, len(calls))
     answers = [call(model, kind, one, places) for one in calls[:performed]]
     answers += [str(UNTOUCHED)] * (capacity - performed)
-    return f"{performed} performed" + "".join(f"; {answer}" for answer in answers)
+    return performed, "".join(f"; {answer}" for answer in answers)
+
+
+def send(model, kind, text):
+    performed, answers = answers_to(model, kind, text)
+    return f"{performed} performed{answers}"
+
+
+def begin(model, kind, text):
+    _, answers = answers_to(model, kind, text)
+    return f"kind {kind_number(kind)}{answers}"
 
 
 def each(model, kind, text):
@@ -294,6 +305,9 @@ class Script:
             answer = each(model, kind, rest)
         elif name == "send":
             answer = send(model, kind, rest)
+        elif name == "begin":
+            model = self.model = Model(kind)
+            answer = begin(model, kind, rest)
         else:
             answer = call(model, kind, line.split(" ", 1)[1])
         return f"{answer}, {len(model.rows)} rows"
@@ -564,6 +578,16 @@ def sends(s):
     s.ask("days send 4 9 | take 1 1.1.0.0 | join 9 1 2 | cut 9 1 0 1")
     s.ask("days new")
     s.ask("days send 4 9 | take 2 1.1.0.1 1.1.1.1 | take 2 1.1.0.5 1.1.1.6 | take 2 1.1.0.5 0.1.1.6 | join 4 3 3")
+    s.heading("sent to a new shelf, which takes the place of the one there was")
+    s.ask(f"glyphs begin 12 9 | {joined}")
+    s.ask("glyphs sum")
+    s.ask(f"glyphs begin 3 9 | {joined}")
+    s.ask("glyphs sum")
+    s.ask("glyphs send 1 9 | join 2 2 1")
+    s.ask("days begin 5 2 | take 9 1.1.0.1 1.1.1.1 | take 2 1.1.0.5 1.1.1.6 | take 1 1.1.0.5 0.1.1.6 | join 4 3 1 | cut 1 3 1 1")
+    s.ask("glyphs take 9 5")
+    s.ask("glyphs begin 2 4", None)
+    s.ask("glyphs row 1")
 
 
 def cases():

@@ -5,7 +5,9 @@ ghost use Rattle.ask.specs.Transcript.{transcript_of};
 ghost use Rattle.question_cases.specs.Cases.{asking_lines, expected_line};
 
 use crate::pile::ask_pile;
-use ask::{Line, parse, transcript};
+use crate::shelved::ask_shelved;
+use ask::{Layers, Line, Question, parse, transcript};
+use keepers::LooseStrip;
 use std::alloc::{AllocError, Global};
 
 // The columns of a line `question | codes | layers | arguments | answer`, where the layers with their bar may
@@ -17,6 +19,15 @@ pub struct Case<'a> {
     pub layers: &'a str,
     pub arguments: &'a str,
     pub answer: &'a str,
+}
+
+// A case as it was understood: the strip's codes, the layers in two parts, and the question.
+#[derive(Drop)]
+struct Asked {
+    codes: Vec<u32>,
+    below: Layers,
+    above: Layers,
+    question: Question,
 }
 
 impl<'a> Case<'a> {
@@ -53,13 +64,14 @@ impl<'a> Case<'a> {
         parse(heap, line.as_bytes())
     }
 
-    // The answer through layers upon layers.
-    fn through_pile(self, heap: Global, below: &str, above: &str) -> Result<String, AllocError> {
+    // What is asked of which codes, through two sets of layers; none where a line of it is not understood.
+    fn asked(self, heap: Global) -> Result<Option<Asked>, AllocError> {
+        let (below, above) = self.layers.split_once(',').unwrap_or((self.layers, ""));
         let strip = format!(in heap; "strip {}", self.codes)?;
         let strip = parse(heap, strip.as_bytes())?;
         let below = self.question_line(heap, below)?;
         let above = self.question_line(heap, above)?;
-        match (strip, below, above) {
+        Ok(match (strip, below, above) {
             (
                 Line::Strip { codes },
                 Line::Question { layers: below, .. },
@@ -67,11 +79,39 @@ impl<'a> Case<'a> {
                     layers: above,
                     question,
                 },
-            ) => {
-                let answer = ask_pile(codes.as_slice(), below, above, question);
+            ) => Some(Asked {
+                codes,
+                below,
+                above,
+                question,
+            }),
+            _ => None,
+        })
+    }
+
+    // The answer through layers upon layers.
+    fn through_pile(self, heap: Global) -> Result<String, AllocError> {
+        match self.asked(heap)? {
+            Some(asked) => {
+                let strip = LooseStrip::new(asked.codes.as_slice());
+                let answer = ask_pile(&strip, asked.below, asked.above, asked.question);
                 format!(in heap; "{answer}\n")
             }
-            _ => String::from_str(heap, "not understood\n"),
+            None => String::from_str(heap, "not understood\n"),
+        }
+    }
+
+    // The answer of the same strip on a shelf.
+    pub(crate) fn shelved(self, heap: Global) -> Result<String, AllocError> {
+        match self.asked(heap)? {
+            Some(asked) => ask_shelved(
+                heap,
+                asked.codes.as_slice(),
+                asked.below,
+                asked.above,
+                asked.question,
+            ),
+            None => String::from_str(heap, "not understood\n"),
         }
     }
 
@@ -88,9 +128,10 @@ impl<'a> Case<'a> {
 
     // The line that comes.
     pub(crate) fn run(self, heap: Global) -> Result<String, AllocError> {
-        match self.layers.split_once(',') {
-            Some((below, above)) => self.through_pile(heap, below, above),
-            None => self.through_lines(heap),
+        if self.layers.contains(',') {
+            self.through_pile(heap)
+        } else {
+            self.through_lines(heap)
         }
     }
 }

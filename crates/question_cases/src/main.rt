@@ -1,8 +1,10 @@
-// Runs files of cases through the questions, and says how many answers are the expected ones.
+// Runs files of cases through the questions, and says how many answers are the expected ones: of the caller's codes,
+// and of the same strip on a shelf.
 #![tactic(auto)]
 
 mod case;
 mod pile;
+mod shelved;
 mod tallies;
 
 use anyhow::ensure;
@@ -19,14 +21,16 @@ fn run_file(rt: &HostRuntime, name: &str) -> anyhow::Result<Tallies> {
         let case = Case::of(line);
         let expected = case.expected(heap)?;
         let got = case.run(heap)?;
-        let agrees = expected == got;
+        let shelved = case.shelved(heap)?;
+        let agrees = expected == got && expected == shelved;
         tallies.count(case.question, agrees);
         if !agrees {
             let number = i.saturating_add(1);
             println!(rt;
-                "{name} line {number}: expected {}, got {}",
+                "{name} line {number}: expected {}, got {}, and {} on a shelf",
                 expected.trim(),
-                got.trim()
+                got.trim(),
+                shelved.trim()
             )?;
         }
     }

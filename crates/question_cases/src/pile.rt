@@ -1,15 +1,19 @@
 // Questions through piles of layers that are higher than those of a line of questions.
 
-ghost use Rattle.std.specs.Prelude.{◌≡◌, take};
-ghost use Rattle.keepers.specs.Shortness.{most_codes};
+ghost use Rattle.std.specs.Prelude.{◌≡◌};
 ghost use Rattle.ask.specs.Answers.{reply_of, reply_to, seen_through};
 
 use ask::{Answer, Asking, Layers, Question, Through};
-use keepers::LooseStrip;
+use keepers::Keeper;
 
-// Asks about a strip through layers upon layers.
-pub(crate) fn ask_pile(strip: &[u32], below: Layers, above: Layers, question: Question) -> Answer
-    ensures { reply_of result ≡ reply_to question (seen_through above (seen_through below (take most_codes strip.now))) }
+// Asks of a keeper through layers upon layers.
+pub(crate) fn ask_pile<K: Keeper>(
+    keeper: &K,
+    below: Layers,
+    above: Layers,
+    question: Question,
+) -> Answer
+    ensures { reply_of result ≡ reply_to question (seen_through above (seen_through below (K.codes keeper.now))) }
 {
     let pile = Through {
         layers: below,
@@ -18,5 +22,5 @@ pub(crate) fn ask_pile(strip: &[u32], below: Layers, above: Layers, question: Qu
             asking: question,
         },
     };
-    pile.ask(&LooseStrip::new(strip))
+    pile.ask(keeper)
 }

@@ -42,7 +42,7 @@ impl<'a, K: CellKind> Printable<'a, K> {
         requires { length numbers.old ≡ length self.now.cells.now }
         ensures { LeavesFiled (rows_in table.old) (printed K.coded self.now.cells.now) result (rows_in table.new) numbers.new }
     {
-        // By place, since the check knows nothing of what is written through a zipped `iter_mut`.
+        // By place, since the checker knows nothing of what is written through a zipped `iter_mut`.
         for (i, cell) in self.cells.iter().enumerate() {
             let code = cell.code().unwrap();
             numbers[i] = table

@@ -67,6 +67,13 @@ fn perform<K: CellKind>(shelf: &mut Shelf, request: Request<'_, K>, work: &mut [
     }
 }
 
+// The shelf that a list of calls is sent to: the one there is, or a new one that takes its place.
+#[derive(Clone, Copy)]
+pub(crate) enum Receiver {
+    Present,
+    New,
+}
+
 // A work area that is not zero, as an earlier use may leave it.
 fn work_area(heap: Global, places: usize) -> Result<Vec<u16>, AllocError> {
     vec![in heap; LEFTOVER; places]
@@ -121,7 +128,11 @@ impl Bench {
     }
 
     // Sends calls as a list: their number of answers, the work places there are, and the calls after bars.
-    pub(crate) fn send<K: Spelled + Copy + Drop>(&mut self, text: &str) -> anyhow::Result<String> {
+    pub(crate) fn send<K: Spelled + Copy + Drop>(
+        &mut self,
+        text: &str,
+        shelf: Receiver,
+    ) -> anyhow::Result<String> {
         let heap = self.heap;
         let mut parts = text.splitn(3, ' ');
         let capacity = number(parts.next())?;
@@ -146,15 +157,37 @@ impl Bench {
             .try_collect::<Vec<_>>(heap)?;
         let mut answers = vec![in heap; Ok(UNTOUCHED); capacity]?;
         let mut work = work_area(heap, places)?;
-        let performed = self.shelf.send(
+        let sent = self.deliver(
             requests.as_slice(),
             answers.as_mut_slice(),
             work.as_mut_slice(),
-        );
+            shelf,
+        )?;
         let answers = ToldAll(answers.as_slice());
         let count = self.shelf.count();
         let said = said_of_work(work.as_slice());
-        Ok(format!(in heap; "{performed} performed{answers}, {count} rows{said}")?)
+        Ok(format!(in heap; "{sent}{answers}, {count} rows{said}")?)
+    }
+
+    // Sends requests, and says how many were performed or, of a new shelf, which does not say that, its kind.
+    fn deliver<K: CellKind>(
+        &mut self,
+        requests: &[Sent<'_, K>],
+        answers: &mut [Answer],
+        work: &mut [u16],
+        shelf: Receiver,
+    ) -> Result<String, AllocError> {
+        match shelf {
+            Receiver::Present => {
+                let performed = self.shelf.send(requests, answers, work);
+                format!(in self.heap; "{performed} performed")
+            }
+            Receiver::New => {
+                self.shelf = Shelf::begin(requests, answers, work);
+                let kind = self.shelf.kind_number();
+                format!(in self.heap; "kind {kind}")
+            }
+        }
     }
 
     // Takes the cell of a code alone. In a list, since `&[cell]` at a type parameter asks that its size is known

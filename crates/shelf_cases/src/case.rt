@@ -1,4 +1,5 @@
 // A case: what a line asks of a shelf, and the answer that comes.
+use crate::call::Receiver;
 use crate::spelling::{OrNone, Spelled, Told, Whole, number, spell_cells, word};
 use anyhow::anyhow;
 use cells::{CellKind, Day, Glyph};
@@ -91,7 +92,8 @@ impl Bench {
         let (name, rest) = word(text);
         match name {
             "new" => Ok(self.empty::<K>()?),
-            "send" => self.send::<K>(rest),
+            "send" => self.send::<K>(rest, Receiver::Present),
+            "begin" => self.send::<K>(rest, Receiver::New),
             "each" => self.each::<K>(rest),
             "take" | "join" | "cut" => self.perform_call::<K>(text),
             _ => self.read::<K>(name, rest),

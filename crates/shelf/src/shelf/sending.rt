@@ -39,7 +39,7 @@ impl Shelf {
         ensures answers { map told answers.new ≡ answers_of (kind_of self.old == K.NUMBER) K.coded (rows_on self.old) (calls_sent (length work.old) requests.now) }
         ensures kind { kind_of self.new ≡ kind_of self.old }
     {
-        // By place, since the check knows nothing of what is written through a zipped `iter_mut`.
+        // By place, since the checker knows nothing of what is written through a zipped `iter_mut`.
         for (i, request) in requests.iter().enumerate() {
             answers[i] = self.perform(request, work);
         }
