@@ -1,6 +1,6 @@
 -- Calls of the book, check by check: what each comes to, that rows stay lawful, and that a strip that was
 -- answered stands under its number. Assumes nothing.
-use Rattle.std.proofs.Common.{◌≡◌, ℕ, ◌+◌, ◌<◌, ◌≤◌, Bool, true, false, cond, ◌&&◌, ltb, leb, ◌⊎◌, List, ◌++◌, map, length, drop, Some, None, Option, unwrap_or, sym, refl, ap, ◌∙◌, subst, inl, inr, arith, length-append, length-drop, length-take}
+use Rattle.std.proofs.Common.{◌≡◌, ℕ, ◌+◌, ◌<◌, ◌≤◌, Bool, true, false, ◌&&◌, ltb, leb, ◌⊎◌, List, ◌++◌, map, length, drop, Some, None, Option, unwrap_or, sym, refl, ap, ◌∙◌, subst, inl, inr, arith, length-append, length-drop, length-take}
 use lib.ListN.{length-map}
 use Rattle.std.proofs.ByRecursion.{All-append}
 use Rattle.std.proofs.lemmas.Bool.{cases_Bool, cases_lt, cond-true, cond-false, and_from, and_left, and_right, le-leb, lt-leb, leb-true}
@@ -14,39 +14,44 @@ use Rattle.rows.specs.Strips.{strip}
 use Rattle.rows.proofs.OneNumber.{Stands, settled_stands, stands_append}
 use Rattle.rows.proofs.SettleFacts.{settles}
 use Rattle.rows.proofs.ShapeFacts.{settle_shapes}
-use Rattle.book.specs.Calls.{answered, refused, Turn, refusing, settling, filing, printed, printing, taken, is_known, joined_up, part_of, cut_out}
+use Rattle.book.specs.Calls.{answered, refused, refused_at, Turn, refusing, settling, filing, printed, printing, taken, is_known, joined_up, part_of, cut_out}
 use Rattle.book.specs.Laws.{leaf_of_kind, OfKind}
 use Rattle.book.proofs.CodeFacts.{KindLaws, HasAll, has_take, has_drop, strip_has, codes_given, has_codes, same_from_codes, printed_codes}
 
--- a strip that is filed
+-- a strip that is filed: what holds of the refusal for want of places and of what the rounds come to holds of it
+pub filing_by : (rows : List Row) (codes : List ℕ) (places : ℕ) (P : Turn → Type 0) → P (refusing rows (refused 4)) → P (settling rows (settle rows codes)) → P (filing rows codes places)
+unfolding filing
+filing_by rows codes places P short enough =
+    elim (cases_Bool (ltb places (length codes))) [
+      | inl few ↦ subst P (sym (cond-true (ltb places (length codes)) (refusing rows (refused 4)) (settling rows (settle rows codes)) few)) short
+      | inr room ↦ subst P (sym (cond-false (ltb places (length codes)) (refusing rows (refused 4)) (settling rows (settle rows codes)) room)) enough
+    ]
+
+-- a refusal answers no number
+pub refused_apart : (number n : ℕ) → refused number ≡ answered n → ⊥
+refused_apart number n is = let z : ◌≡◌ {A = ℕ} 0 1 = cc in omega arith
+
+pub refused_at_apart : (number place n : ℕ) → refused_at number place ≡ answered n → ⊥
+refused_at_apart number place n is = let z : ◌≡◌ {A = ℕ} 0 1 = cc in omega arith
+
 module _ (rows : List Row) (codes : List ℕ) (law : Lawful rows) (short : length codes ≤ 65535) where
   settling_lawful : (o : Option Settled) → settle rows codes ≡ o → Lawful (settling rows o).rows
   settling_lawful None is = law
   settling_lawful (Some s) is = (settles rows codes s law short is).lawful
 
-  pub filing_lawful : (places : ℕ) → Lawful (filing rows codes places).rows
-  unfolding filing
-  filing_lawful places =
-      elim (cases_Bool (ltb places (length codes))) [
-        | inl few ↦ subst (λ t. Lawful t.rows) (sym (cond-true (ltb places (length codes)) (refusing rows (refused 4)) (settling rows (settle rows codes)) few)) law
-        | inr enough ↦ subst (λ t. Lawful t.rows) (sym (cond-false (ltb places (length codes)) (refusing rows (refused 4)) (settling rows (settle rows codes)) enough)) (settling_lawful (settle rows codes) refl)
-      ]
+  filing_lawful : (places : ℕ) → Lawful (filing rows codes places).rows
+  filing_lawful places = filing_by rows codes places (λ t. Lawful t.rows) law (settling_lawful (settle rows codes) refl)
 
-  settling_stands : (o : Option Settled) → settle rows codes ≡ o → (n : ℕ) → (settling rows o).answer ≡ answered n → Stands (settling rows o).rows codes n
-  settling_stands None is n answer = let z : ◌≡◌ {A = ℕ} 0 1 = cc in absurd (omega arith)
+  -- the strip of a number that was answered stands under it
+  abbrev pub Standing : Turn → Type 0
+  Standing t = (n : ℕ) → t.answer ≡ answered n → Stands t.rows codes n
+
+  settling_stands : (o : Option Settled) → settle rows codes ≡ o → Standing (settling rows o)
+  settling_stands None is n answer = absurd (refused_apart 5 n answer)
   settling_stands (Some s) is n answer = subst (λ k. Stands s.rows codes k) (let e : number_left s.numbers ≡ n = cc in e) (settled_stands rows codes s law short is)
 
-  pub filing_stands : (places n : ℕ) → (filing rows codes places).answer ≡ answered n → Stands (filing rows codes places).rows codes n
-  unfolding filing
-  filing_stands places n answer =
-      elim (cases_Bool (ltb places (length codes))) [
-        | inl few ↦
-            let is = cond-true (ltb places (length codes)) (refusing rows (refused 4)) (settling rows (settle rows codes)) few in
-            absurd (let e : refused 4 ≡ answered n = ap (λ t. t.answer) (sym is) ∙ answer in let z : ◌≡◌ {A = ℕ} 0 1 = cc in omega arith)
-        | inr enough ↦
-            let is = cond-false (ltb places (length codes)) (refusing rows (refused 4)) (settling rows (settle rows codes)) enough in
-            subst (λ t. Stands t.rows codes n) (sym is) (settling_stands (settle rows codes) refl n (ap (λ t. t.answer) (sym is) ∙ answer))
-      ]
+  pub filing_stands : (places : ℕ) → Standing (filing rows codes places)
+  filing_stands places = filing_by rows codes places Standing (λ n answer. absurd (refused_apart 4 n answer)) (settling_stands (settle rows codes) refl)
 
 -- taking, check by check
 module _ {C : Type 0} (coded : C → Option ℕ) (rows : List Row) (cells : List C) (places : ℕ) where
@@ -62,43 +67,39 @@ module _ {C : Type 0} (coded : C → Option ℕ) (rows : List Row) (cells : List
   unfolding taken
   taken_short same_kind same short o is = cond-true same_kind _ _ same ∙ cond-true (leb (length cells) 65535) _ _ (le-leb (length cells) 65535 short) ∙ ap (printing coded rows cells places) is
 
--- a take that was answered: its cells are printable, and their strip stands under the number
-module _ {C : Type 0} (coded : C → Option ℕ) (rows : List Row) (cells : List C) (places : ℕ) (law : Lawful rows) where
-  abbrev TakenStands : ℕ → Turn → Type 0
-  TakenStands n t = (first_unprintable coded cells ≡ None) × Stands t.rows (printed coded cells) n
+-- what holds of its refusals, and of the strip of printable cells that is filed, holds of a take
+module _ {C : Type 0} (coded : C → Option ℕ) (rows : List Row) (cells : List C) (places : ℕ) where
+  short_codes : length cells ≤ 65535 → length (printed coded cells) ≤ 65535
+  short_codes short = subst (λ k. k ≤ 65535) (sym (length-map cells (λ cell. unwrap_or (coded cell) 0))) short
 
-  printing_stands : (n : ℕ) (o : Option ℕ) → length cells ≤ 65535 → first_unprintable coded cells ≡ o → (printing coded rows cells places o).answer ≡ answered n → TakenStands n (printing coded rows cells places o)
-  printing_stands n (Some place) short is answer = let z : ◌≡◌ {A = ℕ} 0 1 = cc in absurd (omega arith)
-  printing_stands n None short is answer =
-      (is, filing_stands rows (printed coded cells) law (subst (λ k. k ≤ 65535) (sym (length-map cells (λ cell. unwrap_or (coded cell) 0))) short) places n answer)
+  module _ (P : Turn → Type 0) (other_kind : P (refusing rows (refused 1))) (long : P (refusing rows (refused 2))) (unprintable : (place : ℕ) → P (refusing rows (refused_at 3 place)))
+      (filed : first_unprintable coded cells ≡ None → length (printed coded cells) ≤ 65535 → P (filing rows (printed coded cells) places)) where
+    printing_by : (o : Option ℕ) → length cells ≤ 65535 → first_unprintable coded cells ≡ o → P (printing coded rows cells places o)
+    printing_by (Some place) short is = unprintable place
+    printing_by None short is = filed is (short_codes short)
 
-  pub taken_stands : (same_kind : Bool) (n : ℕ) → (taken same_kind coded rows cells places).answer ≡ answered n → TakenStands n (taken same_kind coded rows cells places)
-  unfolding taken
-  taken_stands false n answer = let z : ◌≡◌ {A = ℕ} 0 1 = cc in absurd (omega arith)
-  taken_stands true n answer = by_length (cases_Bool (leb (length cells) 65535))
-    where
-      by_length : (leb (length cells) 65535 ≡ true) ⊎ (leb (length cells) 65535 ≡ false) → TakenStands n (cond (leb (length cells) 65535) (printing coded rows cells places (first_unprintable coded cells)) (refusing rows (refused 2)))
-      by_length (inl short) =
-          let is = cond-true (leb (length cells) 65535) (printing coded rows cells places (first_unprintable coded cells)) (refusing rows (refused 2)) short in
-          subst (TakenStands n) (sym is) (printing_stands n (first_unprintable coded cells) (leb-true (length cells) 65535 short) refl (ap (λ t. t.answer) (sym is) ∙ answer))
-      by_length (inr long) =
-          let is = cond-false (leb (length cells) 65535) (printing coded rows cells places (first_unprintable coded cells)) (refusing rows (refused 2)) long in
-          absurd (let e : refused 2 ≡ answered n = ap (λ t. t.answer) (sym is) ∙ answer in let z : ◌≡◌ {A = ℕ} 0 1 = cc in omega arith)
+    pub taken_by : (same_kind : Bool) → P (taken same_kind coded rows cells places)
+    unfolding taken
+    taken_by false = other_kind
+    taken_by true =
+        let by_print = printing coded rows cells places (first_unprintable coded cells) in
+        elim (cases_Bool (leb (length cells) 65535)) [
+          | inl short ↦ subst P (sym (cond-true (leb (length cells) 65535) by_print (refusing rows (refused 2)) short)) (printing_by (first_unprintable coded cells) (leb-true (length cells) 65535 short) refl)
+          | inr past ↦ subst P (sym (cond-false (leb (length cells) 65535) by_print (refusing rows (refused 2)) past)) long
+        ]
 
-  printing_lawful : (o : Option ℕ) → length cells ≤ 65535 → Lawful (printing coded rows cells places o).rows
-  printing_lawful (Some place) short = law
-  printing_lawful None short = filing_lawful rows (printed coded cells) law (subst (λ k. k ≤ 65535) (sym (length-map cells (λ cell. unwrap_or (coded cell) 0))) short) places
+  module _ (law : Lawful rows) where
+    pub taken_lawful : (same_kind : Bool) → Lawful (taken same_kind coded rows cells places).rows
+    taken_lawful = taken_by (λ t. Lawful t.rows) law law (λ place. law) (λ printable short. filing_lawful rows (printed coded cells) law short places)
 
-  pub taken_lawful : (same_kind : Bool) → Lawful (taken same_kind coded rows cells places).rows
-  unfolding taken
-  taken_lawful false = law
-  taken_lawful true = by_length (cases_Bool (leb (length cells) 65535))
-    where
-      by_length : (leb (length cells) 65535 ≡ true) ⊎ (leb (length cells) 65535 ≡ false) → Lawful (cond (leb (length cells) 65535) (printing coded rows cells places (first_unprintable coded cells)) (refusing rows (refused 2))).rows
-      by_length (inl short) =
-          subst (λ t. Lawful t.rows) (sym (cond-true (leb (length cells) 65535) (printing coded rows cells places (first_unprintable coded cells)) (refusing rows (refused 2)) short))
-          (printing_lawful (first_unprintable coded cells) (leb-true (length cells) 65535 short))
-      by_length (inr long) = subst (λ t. Lawful t.rows) (sym (cond-false (leb (length cells) 65535) (printing coded rows cells places (first_unprintable coded cells)) (refusing rows (refused 2)) long)) law
+    -- a take that was answered: its cells are printable, and their strip stands under the number
+    abbrev TakenStands : Turn → Type 0
+    TakenStands t = (n : ℕ) → t.answer ≡ answered n → (first_unprintable coded cells ≡ None) × Stands t.rows (printed coded cells) n
+
+    pub taken_stands : (same_kind : Bool) → TakenStands (taken same_kind coded rows cells places)
+    taken_stands =
+        taken_by TakenStands (λ n answer. absurd (refused_apart 1 n answer)) (λ n answer. absurd (refused_apart 2 n answer)) (λ place n answer. absurd (refused_at_apart 3 place n answer))
+        (λ printable short n answer. (printable, filing_stands rows (printed coded cells) law short places n answer))
 
 -- the number that was answered for taken cells is known, and its strip has the same cells, also when rows were added
 -- since
@@ -109,10 +110,11 @@ written_back coded has given same laws same_kind rows cells places law n answer 
     let is = taken_stands coded rows cells places law same_kind n answer in
     let codes = printed coded cells in
     let codes_are = printed_codes coded cells is.0 in
-    let later = stands_append (taken same_kind coded rows cells places).rows more codes n is.1 in
-    (later.known,
-    subst (λ xs. AllZip same cells (map given xs)) (sym later.writes)
-    (same_from_codes coded has given same laws cells (map given codes) codes codes codes_are (codes_given coded has given same laws codes (has_codes coded has given same laws cells codes codes_are)) refl))
+    let later = stands_append (taken same_kind coded rows cells places).rows more codes n is.1 in (
+      later.known,
+      subst (λ xs. AllZip same cells (map given xs)) (sym later.writes)
+          (same_from_codes coded has given same laws cells (map given codes) codes codes codes_are (codes_given coded has given same laws codes (has_codes coded has given same laws cells codes codes_are)) refl),
+    )
 
 -- joining, check by check
 module _ (rows : List Row) (left right places : ℕ) where
@@ -147,34 +149,33 @@ module _ (rows : List Row) (n start size places : ℕ) where
   unfolding cut_out
   cut_filed within inside = cond-true (is_known rows n) _ _ (le-leb n (length rows) within) ∙ cond-true (leb (start + size) (length (strip rows n))) _ _ (le-leb (start + size) (length (strip rows n)) inside)
 
--- joining and cutting keep rows lawful
-pub joined_lawful : (rows : List Row) (left right places : ℕ) → Lawful rows → Lawful (joined_up rows left right places).rows
-joined_lawful rows left right places law =
+-- what holds of its refusals, and of the strip that is filed, holds of a join
+pub joined_by : (rows : List Row) (left right places : ℕ) (P : Turn → Type 0) → P (refusing rows (refused 6)) → P (refusing rows (refused 2))
+    → (length (strip rows left ++ strip rows right) ≤ 65535 → P (filing rows (strip rows left ++ strip rows right) places)) → P (joined_up rows left right places)
+joined_by rows left right places P unknown long filed =
     elim (cases_lt (length rows) left) [
-      | inl past ↦ subst (λ t. Lawful t.rows) (sym (joined_unknown rows left right places (inl past))) law
+      | inl past ↦ subst P (sym (joined_unknown rows left right places (inl past))) unknown
       | inr left_known ↦
           elim (cases_lt (length rows) right) [
-            | inl past ↦ subst (λ t. Lawful t.rows) (sym (joined_unknown rows left right places (inr past))) law
+            | inl past ↦ subst P (sym (joined_unknown rows left right places (inr past))) unknown
             | inr right_known ↦
                 elim (cases_lt 65535 (length (strip rows left) + length (strip rows right))) [
-                  | inl long ↦ subst (λ t. Lawful t.rows) (sym (joined_long rows left right places left_known right_known long)) law
-                  | inr short ↦
-                      subst (λ t. Lawful t.rows) (sym (joined_filed rows left right places left_known right_known short))
-                      (filing_lawful rows (strip rows left ++ strip rows right) law (omega (arith, length-append (strip rows left) (strip rows right))) places)
+                  | inl past ↦ subst P (sym (joined_long rows left right places left_known right_known past)) long
+                  | inr short ↦ subst P (sym (joined_filed rows left right places left_known right_known short)) (filed (omega (arith, length-append (strip rows left) (strip rows right))))
                 ]
           ]
     ]
 
-pub cut_lawful : (rows : List Row) (n start size places : ℕ) → Lawful rows → Lawful (cut_out rows n start size places).rows
-cut_lawful rows n start size places law =
+-- .. and of a cut, on rows whose strips are short
+pub cut_by : (rows : List Row) (n start size places : ℕ) → length (strip rows n) ≤ 65535 → (P : Turn → Type 0) → P (refusing rows (refused 6)) → P (refusing rows (refused 7))
+    → (length (part_of rows n start size) ≤ 65535 → P (filing rows (part_of rows n start size) places)) → P (cut_out rows n start size places)
+cut_by rows n start size places short P unknown leaves filed =
     elim (cases_lt (length rows) n) [
-      | inl past ↦ subst (λ t. Lawful t.rows) (sym (cut_unknown rows n start size places past)) law
+      | inl past ↦ subst P (sym (cut_unknown rows n start size places past)) unknown
       | inr within ↦
           elim (cases_lt (length (strip rows n)) (start + size)) [
-            | inl past ↦ subst (λ t. Lawful t.rows) (sym (cut_leaves rows n start size places within past)) law
-            | inr inside ↦
-                let fits : length (part_of rows n start size) ≤ 65535 = simp (length-take, length-drop) (omega (arith, strip_short rows law n)) in
-                subst (λ t. Lawful t.rows) (sym (cut_filed rows n start size places within inside)) (filing_lawful rows (part_of rows n start size) law fits places)
+            | inl past ↦ subst P (sym (cut_leaves rows n start size places within past)) leaves
+            | inr inside ↦ subst P (sym (cut_filed rows n start size places within inside)) (filed (simp (length-take, length-drop) (omega arith)))
           ]
     ]
 
@@ -183,86 +184,52 @@ abbrev pub Stays : List ℕ → Turn → Type 0
 Stays codes t = (n : ℕ) → t.answer ≡ answered n → (more : List Row) → strip (t.rows ++ more) n ≡ codes
 
 refused_stays : (codes : List ℕ) (rows : List Row) (number : ℕ) → Stays codes (refusing rows (refused number))
-refused_stays codes rows number n answer more = let z : ◌≡◌ {A = ℕ} 0 1 = cc in absurd (omega arith)
+refused_stays codes rows number n answer more = absurd (refused_apart number n answer)
 
-filed_stays : (codes : List ℕ) (rows : List Row) (places : ℕ) → Lawful rows → length codes ≤ 65535 → Stays codes (filing rows codes places)
-filed_stays codes rows places law short n answer more =
-    (stands_append (filing rows codes places).rows more codes n (filing_stands rows codes law short places n answer)).writes
+-- on lawful rows
+module _ (rows : List Row) (law : Lawful rows) where
+  filed_stays : (codes : List ℕ) (places : ℕ) → length codes ≤ 65535 → Stays codes (filing rows codes places)
+  filed_stays codes places short n answer more =
+      (stands_append (filing rows codes places).rows more codes n (filing_stands rows codes law short places n answer)).writes
 
-pub joined_stays : (rows : List Row) (left right places : ℕ) → Lawful rows → Stays (strip rows left ++ strip rows right) (joined_up rows left right places)
-joined_stays rows left right places law =
-    let codes = strip rows left ++ strip rows right in
-    elim (cases_lt (length rows) left) [
-      | inl past ↦ subst (Stays codes) (sym (joined_unknown rows left right places (inl past))) (refused_stays codes rows 6)
-      | inr left_known ↦
-          elim (cases_lt (length rows) right) [
-            | inl past ↦ subst (Stays codes) (sym (joined_unknown rows left right places (inr past))) (refused_stays codes rows 6)
-            | inr right_known ↦
-                elim (cases_lt 65535 (length (strip rows left) + length (strip rows right))) [
-                  | inl long ↦ subst (Stays codes) (sym (joined_long rows left right places left_known right_known long)) (refused_stays codes rows 2)
-                  | inr short ↦
-                      subst (Stays codes) (sym (joined_filed rows left right places left_known right_known short))
-                      (filed_stays codes rows places law (omega (arith, length-append (strip rows left) (strip rows right))))
-                ]
-          ]
-    ]
+  module _ (left right places : ℕ) where
+    pub joined_lawful : Lawful (joined_up rows left right places).rows
+    joined_lawful = joined_by rows left right places (λ t. Lawful t.rows) law law (λ short. filing_lawful rows (strip rows left ++ strip rows right) law short places)
 
-pub cut_stays : (rows : List Row) (n start size places : ℕ) → Lawful rows → Stays (part_of rows n start size) (cut_out rows n start size places)
-cut_stays rows n start size places law =
-    let codes = part_of rows n start size in
-    elim (cases_lt (length rows) n) [
-      | inl past ↦ subst (Stays codes) (sym (cut_unknown rows n start size places past)) (refused_stays codes rows 6)
-      | inr within ↦
-          elim (cases_lt (length (strip rows n)) (start + size)) [
-            | inl past ↦ subst (Stays codes) (sym (cut_leaves rows n start size places within past)) (refused_stays codes rows 7)
-            | inr inside ↦
-                let fits : length (part_of rows n start size) ≤ 65535 = simp (length-take, length-drop) (omega (arith, strip_short rows law n)) in
-                subst (Stays codes) (sym (cut_filed rows n start size places within inside)) (filed_stays codes rows places law fits)
-          ]
-    ]
+    pub joined_stays : Stays (strip rows left ++ strip rows right) (joined_up rows left right places)
+    joined_stays =
+        let codes = strip rows left ++ strip rows right in
+        joined_by rows left right places (Stays codes) (refused_stays codes rows 6) (refused_stays codes rows 2) (filed_stays codes places)
 
--- calls keep rows of their kind
+  module _ (n start size places : ℕ) where
+    pub cut_lawful : Lawful (cut_out rows n start size places).rows
+    cut_lawful = cut_by rows n start size places (strip_short rows law n) (λ t. Lawful t.rows) law law (λ short. filing_lawful rows (part_of rows n start size) law short places)
+
+    pub cut_stays : Stays (part_of rows n start size) (cut_out rows n start size places)
+    cut_stays =
+        let codes = part_of rows n start size in
+        cut_by rows n start size places (strip_short rows law n) (Stays codes) (refused_stays codes rows 6) (refused_stays codes rows 7) (filed_stays codes places)
+
+-- the codes of rows of a kind are codes of it
 module _ (has : ℕ → Bool) (rows : List Row) (kinds : OfKind has rows) where
+  pub both_have : (left right : ℕ) → HasAll has (strip rows left ++ strip rows right)
+  both_have left right = All-append (λ c. has c ≡ true) (strip rows left) (strip rows right) (strip_has has rows left kinds) (strip_has has rows right kinds)
+
+  pub part_has : (n start size : ℕ) → HasAll has (part_of rows n start size)
+  part_has n start size = has_take has size (drop start (strip rows n)) (has_drop has start (strip rows n) (strip_has has rows n kinds))
+
+  -- and calls keep them so
   settling_of_kind : (codes : List ℕ) → HasAll has codes → (o : Option Settled) → settle rows codes ≡ o → OfKind has (settling rows o).rows
   settling_of_kind codes has_all None is = kinds
   settling_of_kind codes has_all (Some s) is = settle_shapes (leaf_of_kind has) (λ l r. tt) (λ p m. tt) rows codes s kinds has_all is
 
   filing_of_kind : (codes : List ℕ) (places : ℕ) → HasAll has codes → OfKind has (filing rows codes places).rows
-  unfolding filing
-  filing_of_kind codes places has_all =
-      elim (cases_Bool (ltb places (length codes))) [
-        | inl few ↦ subst (λ t. OfKind has t.rows) (sym (cond-true (ltb places (length codes)) (refusing rows (refused 4)) (settling rows (settle rows codes)) few)) kinds
-        | inr enough ↦
-            subst (λ t. OfKind has t.rows) (sym (cond-false (ltb places (length codes)) (refusing rows (refused 4)) (settling rows (settle rows codes)) enough))
-            (settling_of_kind codes has_all (settle rows codes) refl)
-      ]
+  filing_of_kind codes places has_all = filing_by rows codes places (λ t. OfKind has t.rows) kinds (settling_of_kind codes has_all (settle rows codes) refl)
 
   pub joined_of_kind : (left right places : ℕ) → OfKind has (joined_up rows left right places).rows
   joined_of_kind left right places =
-      elim (cases_lt (length rows) left) [
-        | inl past ↦ subst (λ t. OfKind has t.rows) (sym (joined_unknown rows left right places (inl past))) kinds
-        | inr left_known ↦
-            elim (cases_lt (length rows) right) [
-              | inl past ↦ subst (λ t. OfKind has t.rows) (sym (joined_unknown rows left right places (inr past))) kinds
-              | inr right_known ↦
-                  elim (cases_lt 65535 (length (strip rows left) + length (strip rows right))) [
-                    | inl long ↦ subst (λ t. OfKind has t.rows) (sym (joined_long rows left right places left_known right_known long)) kinds
-                    | inr short ↦
-                        subst (λ t. OfKind has t.rows) (sym (joined_filed rows left right places left_known right_known short))
-                        (filing_of_kind (strip rows left ++ strip rows right) places (All-append (λ c. has c ≡ true) (strip rows left) (strip rows right) (strip_has has rows left kinds) (strip_has has rows right kinds)))
-                  ]
-            ]
-      ]
+      joined_by rows left right places (λ t. OfKind has t.rows) kinds kinds (λ short. filing_of_kind (strip rows left ++ strip rows right) places (both_have left right))
 
-  pub cut_of_kind : (n start size places : ℕ) → OfKind has (cut_out rows n start size places).rows
-  cut_of_kind n start size places =
-      elim (cases_lt (length rows) n) [
-        | inl past ↦ subst (λ t. OfKind has t.rows) (sym (cut_unknown rows n start size places past)) kinds
-        | inr within ↦
-            elim (cases_lt (length (strip rows n)) (start + size)) [
-              | inl past ↦ subst (λ t. OfKind has t.rows) (sym (cut_leaves rows n start size places within past)) kinds
-              | inr inside ↦
-                  subst (λ t. OfKind has t.rows) (sym (cut_filed rows n start size places within inside))
-                  (filing_of_kind (part_of rows n start size) places (has_take has size (drop start (strip rows n)) (has_drop has start (strip rows n) (strip_has has rows n kinds))))
-            ]
-      ]
+  pub cut_of_kind : (n start size places : ℕ) → length (strip rows n) ≤ 65535 → OfKind has (cut_out rows n start size places).rows
+  cut_of_kind n start size places short =
+      cut_by rows n start size places short (λ t. OfKind has t.rows) kinds kinds (λ fits. filing_of_kind (part_of rows n start size) places (part_has n start size))

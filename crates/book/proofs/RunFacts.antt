@@ -3,7 +3,6 @@ use Rattle.std.proofs.Common.{◌≡◌, ℕ, zero, suc, Bool, List, [], ◌∷�
 use Rattle.std.proofs.lemmas.List.{append-nil, append_assoc}
 use Rattle.rows.specs.declared.Row.{Row}
 use Rattle.rows.specs.Lawful.{Lawful}
-use Rattle.rows.proofs.LawfulFacts.{strip_short}
 use Rattle.rows.proofs.OneNumber.{Stands, stands_append, one_number}
 use Rattle.book.specs.Calls.{Call, taking, joining, cutting, turn, wrote}
 use Rattle.book.specs.Laws.{OfKind, Answered, OneNumber}
@@ -15,7 +14,7 @@ module _ {C : Type 0} (same_kind : Bool) (coded : C → Option ℕ) (has : ℕ �
   pub turn_told : (rows : List Row) → Lawful rows → OfKind has rows → (call : Call C) (places : ℕ) → Told coded has rows (wrote given rows call) (turn same_kind coded rows call places)
   turn_told rows law kinds (taking cells) places = taken_told coded has given same laws rows law kinds same_kind cells places
   turn_told rows law kinds (joining left right) places = joined_told coded has given same laws rows law kinds left right places
-  turn_told rows law kinds (cutting n start size) places = cut_told coded has given same laws rows law kinds n start size places (strip_short rows law n)
+  turn_told rows law kinds (cutting n start size) places = cut_told coded has given same laws rows law kinds n start size places
 
   -- what a list of calls leaves
   pub record Ran (rows : List Row) (sents : List (Sent C)) : Type 0 where

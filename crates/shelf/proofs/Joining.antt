@@ -3,6 +3,7 @@ use Rattle.std.proofs.Common.{◌≡◌, ℕ, ◌+◌, ◌<◌, ◌≤◌, ◌�
 use Rattle.book.specs.Calls.{settling, filing, joined_up, part_of, cut_out}
 use Rattle.book.specs.Laws.{OfKind}
 use Rattle.book.proofs.CallFacts.{joined_unknown, joined_long, joined_filed, joined_of_kind, joined_stays, cut_unknown, cut_leaves, cut_filed, cut_of_kind, cut_stays}
+use Rattle.rows.proofs.LawfulFacts.{strip_short}
 use Rattle.rows.specs.declared.Row.{Row}
 use Rattle.rows.specs.Filing.{row_of}
 use Rattle.rows.specs.Lawful.{Lawful}
@@ -25,7 +26,7 @@ module _ (rows : List Row) (law : Lawful rows) (left right places : ℕ) where
   joined r after comes = record {
     outcome = comes;
     kept = λ has of_kind. subst (OfKind has) (sym comes.1) (joined_of_kind has rows of_kind left right places);
-    back = stays_from (strip rows left ++ strip rows right) r after (joined_up rows left right places) comes (joined_stays rows left right places law);
+    back = stays_from (strip rows left ++ strip rows right) r after (joined_up rows left right places) comes (joined_stays rows law left right places);
   }
 
   pub join_unknown : (length rows < left) ⊎ (length rows < right) → Joined (Err UnknownNumber) rows
@@ -74,8 +75,8 @@ module _ (rows : List Row) (law : Lawful rows) (n start size places : ℕ) where
   cut : (r : Result ℕ Refusal) (after : List Row) → ComesTo r after (cut_out rows n start size places) → Cut r after
   cut r after comes = record {
     outcome = comes;
-    kept = λ has of_kind. subst (OfKind has) (sym comes.1) (cut_of_kind has rows of_kind n start size places);
-    back = stays_from (part_of rows n start size) r after (cut_out rows n start size places) comes (cut_stays rows n start size places law);
+    kept = λ has of_kind. subst (OfKind has) (sym comes.1) (cut_of_kind has rows of_kind n start size places (strip_short rows law n));
+    back = stays_from (part_of rows n start size) r after (cut_out rows n start size places) comes (cut_stays rows law n start size places);
   }
 
   pub unknown_cut : length rows < n → Cut (Err UnknownNumber) rows

@@ -63,7 +63,7 @@ invariant_of-self c =
     let all : length (take part.length c.args.work.now) ≡ part.length = simp length-take (omega arith) in
     let settled = settled_cut (rows_on shelf) shelf.lawful c.args.number part.start part.length (length c.args.work.now) told.0 (omega (arith, told.1, inside))
     c.settle_leaves.result (rows_in c.settle_leaves.new.table) c.expand_part.new.out (omega arith) (c.expand_part.ensures ∙ ap (written_out (rows_on shelf) c.args.number part.start) all) c.settle_leaves.ensures in
-    record { lawful = subst Lawful (sym settled.outcome.1) (cut_lawful (rows_on shelf) c.args.number part.start part.length (length c.args.work.now) shelf.lawful) }
+    record { lawful = subst Lawful (sym settled.outcome.1) (cut_lawful (rows_on shelf) shelf.lawful c.args.number part.start part.length (length c.args.work.now)) }
 
 pub returns-clause-writes : goal.returns-clause-writes
 returns-clause-writes c =
