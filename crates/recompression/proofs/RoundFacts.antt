@@ -1,4 +1,4 @@
--- Rounds run in place: the class of a number by its turn, the first block of a string, and a pass that reads
+-- Rounds run in place: the class of a number by its phase, the first block of a string, and a pass that reads
 -- ahead of where it writes. Assumes nothing.
 use Rattle.std.proofs.Common.{◌≡◌, ℕ, suc, ◌+◌, ◌-◌, ◌%◌, ◌<◌, ◌≤◌, true, false, not, eqb, List, [], ◌∷◌, ◌++◌, length, get_or, take, drop, set, Some, None, Option, sym, refl, ap, ◌∙◌, subst, inl, inr, arith, length-set, length-take, length-drop}
 use Rattle.std.specs.List.{prefix_len}

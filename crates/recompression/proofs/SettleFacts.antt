@@ -1,12 +1,12 @@
 -- Rounds run one after another in place, and what the last of them leaves. Assumes nothing.
-use Rattle.std.proofs.Common.{◌≡◌, ℕ, zero, suc, ◌+◌, ◌-◌, ◌%◌, ◌<◌, ◌≤◌, eqb, ltb, ◌⊎◌, List, ◌++◌, length, get_or, take, drop, Some, None, sym, refl, ap, ◌∙◌, subst, inl, inr, arith, length-take, length-append, length-drop}
+use Rattle.std.proofs.Common.{◌≡◌, ℕ, suc, ◌+◌, ◌-◌, ◌%◌, ◌<◌, ◌≤◌, eqb, ◌⊎◌, List, ◌++◌, length, get_or, take, drop, Some, None, sym, refl, ap, ◌∙◌, subst, inl, inr, arith, length-take, length-append, length-drop}
 use Rattle.std.proofs.lemmas.List.{take-take, take-append-le, length-take-le}
-use Rattle.std.proofs.lemmas.Bool.{cond-true, cond-false, lt-ltb, le-ltb, eq-eqb, ne_eqb}
+use Rattle.std.proofs.lemmas.Bool.{cond-true, cond-false, eq-eqb, ne_eqb}
 use Rattle.rows.specs.declared.Row.{Row}
-use Rattle.rows.specs.Rounds.{blocks, stretches, pairs, Filed, then, file_all, round, settled, rounds_from}
-use Rattle.rows.proofs.NamingFacts.{file_all_grows}
+use Rattle.rows.specs.Rounds.{blocks, stretches, pairs, then, file_all, rounds_from}
+use Rattle.rows.proofs.NamingFacts.{file_all_grows, rounds_stop, rounds_go, rounds_spent}
 use Rattle.recompression.specs.InPlace.{Ran}
-use Rattle.recompression.specs.Settling.{all_rounds, RunThrough}
+use Rattle.recompression.specs.Settlements.{all_rounds, RunThrough}
 use Rattle.recompression.proofs.RoundFacts.{begins_with_more}
 
 pub odd_blocks : (k : ℕ) (s : List ℕ) → k % 2 ≡ 1 → stretches s ≡ blocks k s
@@ -16,20 +16,6 @@ odd_blocks k s odd = sym (cond-true (eqb (k % 2) 1) (stretches s) (pairs k s) (e
 pub even_blocks : (k : ℕ) (s : List ℕ) → (k % 2 ≡ 1 → ⊥) → pairs k s ≡ blocks k s
 unfolding blocks
 even_blocks k s even = sym (cond-false (eqb (k % 2) 1) (stretches s) (pairs k s) (ne_eqb (k % 2) 1 even))
-
--- one more round, and no more rounds
-rounds_more : (most k : ℕ) (f : Filed) → 2 ≤ length f.numbers → rounds_from (suc most) k f ≡ then (round (k + 1) f) (rounds_from most (k + 1))
-unfolding rounds_from
-rounds_more most k f long = cond-false (ltb (length f.numbers) 2) (Some (settled f k)) (then (round (k + 1) f) (rounds_from most (k + 1))) (le-ltb (length f.numbers) 2 long)
-
-rounds_short : (most k : ℕ) (f : Filed) → length f.numbers < 2 → rounds_from most k f ≡ Some (settled f k)
-unfolding rounds_from
-rounds_short zero k f short = refl
-rounds_short (suc most) k f short = cond-true (ltb (length f.numbers) 2) (Some (settled f k)) (then (round (k + 1) f) (rounds_from most (k + 1))) (lt-ltb (length f.numbers) 2 short)
-
-rounds_spent : (k : ℕ) (f : Filed) → rounds_from 0 k f ≡ Some (settled f k)
-unfolding rounds_from
-rounds_spent k f = refl
 
 -- after k rounds, the string is in the first `size` numbers, and the rounds that are left come to the same
 pub record Running (first : List Row) (old : List ℕ) (most k size : ℕ) (rows : List Row) (numbers : List ℕ) : Type 0 where
@@ -44,15 +30,15 @@ module _ {first : List Row} {old : List ℕ} {most k size : ℕ} {rows : List Ro
 
   next_round : 2 ≤ size → k < most → all_rounds first old ≡ then (file_all (k + 1) (blocks (k + 1) (take size numbers)) rows) (rounds_from (most - (k + 1)) (k + 1))
   next_round two more =
-      let turn : most - k ≡ suc (most - (k + 1)) = omega arith in
-      g.rest ∙ ap (λ n. rounds_from n k (record { numbers = take size numbers; rows = rows })) turn
-      ∙ rounds_more (most - (k + 1)) k (record { numbers = take size numbers; rows = rows }) (omega (arith, string_long))
+      let one_fewer : most - k ≡ suc (most - (k + 1)) = omega arith in
+      g.rest ∙ ap (λ n. rounds_from n k (record { numbers = take size numbers; rows = rows })) one_fewer
+      ∙ rounds_go (most - (k + 1)) k (record { numbers = take size numbers; rows = rows }) (omega (arith, string_long))
 
-  module _ (two : 2 ≤ size) (more : k < most) (round : ℕ) (turn : round ≡ k + 1) (grown : List Row) (part : List ℕ) where
+  module _ (two : 2 ≤ size) (more : k < most) (round : ℕ) (is_next : round ≡ k + 1) (grown : List Row) (part : List ℕ) where
     pub running_more : (m next : ℕ) → next ≡ k + 1 → length part ≡ size → Ran round (blocks round (take size numbers)) rows (Some m) grown part
         → Running first old most next m grown (part ++ drop size numbers)
     running_more m next after same ran =
-        let there = subst (λ r. Ran r (blocks r (take size numbers)) rows (Some m) grown part) turn ran in
+        let there = subst (λ r. Ran r (blocks r (take size numbers)) rows (Some m) grown part) is_next ran in
         let all = file_all_grows (k + 1) (blocks (k + 1) (take size numbers)) rows (record { numbers = take m part; rows = grown }) there.1 in
         subst (λ j. Running first old most j m grown (part ++ drop size numbers)) (sym after) (record {
           few = omega (arith, there.0, g.few);
@@ -65,7 +51,7 @@ module _ {first : List Row} {old : List ℕ} {most k size : ℕ} {rows : List Ro
 
     pub running_full : Ran round (blocks round (take size numbers)) rows None grown part → RunThrough first old None grown
     running_full ran =
-        let there = subst (λ r. Ran r (blocks r (take size numbers)) rows None grown part) turn ran in
+        let there = subst (λ r. Ran r (blocks r (take size numbers)) rows None grown part) is_next ran in
         let shorter : length first ≤ length rows = let l = length-take (length first) rows in let e = ap length g.begins in omega arith in (
           next_round two more ∙ ap (λ o. then o (rounds_from (most - (k + 1)) (k + 1))) there.0,
           sym (take-take (length first) (length rows) grown shorter) ∙ ap (take (length first)) there.1 ∙ g.begins,
@@ -75,5 +61,5 @@ module _ {first : List Row} {old : List ℕ} {most k size : ℕ} {rows : List Ro
   running_done done = (record { numbers = take size numbers; rows = rows; rounds = k }, g.rest ∙ last done, refl, refl)
     where
       last : (size < 2) ⊎ (most ≤ k) → rounds_from (most - k) k (record { numbers = take size numbers; rows = rows }) ≡ Some (record { numbers = take size numbers; rows = rows; rounds = k })
-      last (inl short) = rounds_short (most - k) k (record { numbers = take size numbers; rows = rows }) (omega (arith, string_long))
+      last (inl short) = rounds_stop (most - k) k (record { numbers = take size numbers; rows = rows }) (omega (arith, string_long))
       last (inr over) = let z : most - k ≡ 0 = omega arith in ap (λ n. rounds_from n k (record { numbers = take size numbers; rows = rows })) z ∙ rounds_spent k (record { numbers = take size numbers; rows = rows })

@@ -6,7 +6,7 @@ use Rattle.rows.specs.declared.Shape.{Shape}
 use Rattle.rows.specs.declared.Row.{Row}
 use Rattle.rows.specs.Filing.{blank_row, row_of, row_made}
 use Rattle.recompression.specs.Contents.{row_at}
-use Rattle.recompression.specs.Tables.{in_use, is_blank, LengthsKept, Sound, appended, truncated}
+use Rattle.recompression.specs.Tables.{in_use, is_blank_row, LengthsKept, Sound, appended, truncated}
 use Rattle.recompression.specs.declared.slots.Slots.{Slots}
 use Rattle.recompression.proofs.LengthFacts.{lengths_none, lengths_added, lengths_taken}
 
@@ -23,13 +23,13 @@ pub blank_sound : (s : Slots) → s.rows ≡ replicate 1024 blank_row → s.coun
 blank_sound s blank none = (
   ap length blank,
   omega arith,
-  λ k h. ap (λ rows. is_blank (get_or rows k blank_row)) blank ∙ rw (blank_slots 1024 k),
+  λ k h. ap (λ rows. is_blank_row (get_or rows k blank_row)) blank ∙ rw (blank_slots 1024 k),
   subst LengthsKept (sym (none_in_use s none)) lengths_none,
 )
 
 -- a row that is put at i leaves those after it
-blank_after : (rows : List Row) (i : ℕ) (row : Row) → ((k : ℕ) → i ≤ k → is_blank (get_or rows k blank_row) ≡ true)
-    → (k : ℕ) → i + 1 ≤ k → is_blank (get_or (set rows i row) k blank_row) ≡ true
+blank_after : (rows : List Row) (i : ℕ) (row : Row) → ((k : ℕ) → i ≤ k → is_blank_row (get_or rows k blank_row) ≡ true)
+    → (k : ℕ) → i + 1 ≤ k → is_blank_row (get_or (set rows i row) k blank_row) ≡ true
 blank_after rows i row after k h =
     let ne : k ≢ i = omega arith in
     rw get_or-set_other (after k (omega arith))
@@ -62,10 +62,10 @@ module _ (n : ℕ) (s : Slots) (sound : Sound s) where
             ap (λ m. take m s.rows) first ∙ sym (take-take n s.count s.rows few)
       ]
 
-  blank_from : (k : ℕ) → min s.count n ≤ k → is_blank (get_or (truncated n s).rows k blank_row) ≡ true
+  blank_from : (k : ℕ) → min s.count n ≤ k → is_blank_row (get_or (truncated n s).rows k blank_row) ≡ true
   blank_from k past =
       let more = length s.rows - min s.count n in
-      ap is_blank (get_or-append_right (take (min s.count n) s.rows) (replicate more blank_row) (min s.count n) k blank_row front_long past ∙ blank_slots more (k - min s.count n))
+      ap is_blank_row (get_or-append_right (take (min s.count n) s.rows) (replicate more blank_row) (min s.count n) k blank_row front_long past ∙ blank_slots more (k - min s.count n))
 
   pub truncated_sound : Sound (truncated n s)
   truncated_sound = (

@@ -24,6 +24,6 @@ rows_left rows None = rows
 rows_left rows (Some f) = f.rows
 
 -- what filing answers and leaves, of rows that were there before
-pub record Filed (before : List Row) (filed : Option Numbered) (answer : Option ℕ) (after : List Row) : Type 0 where
+pub record FilesAs (before : List Row) (filed : Option Numbered) (answer : Option ℕ) (after : List Row) : Type 0 where
   pub number : answer ≡ number_in filed
   pub rows : after ≡ rows_left before filed

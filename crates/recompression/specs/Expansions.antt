@@ -11,9 +11,9 @@ abbrev pub written_out : List Row → ℕ → ℕ → ℕ → List ℕ
 written_out rows n start count = take count (drop start (leaf_string rows n))
 
 -- they are written where the number's row keeps a length that has them all; otherwise nothing is changed
-abbrev pub Expanded : List Row → ℕ → ℕ → List ℕ → Result (Unit {0}) OutOfStrip → List ℕ → Type 0
-Expanded rows n start old (Ok done) new = (start + length old ≤ (row_of rows n).length) × (new ≡ written_out rows n start (length old))
-Expanded rows n start old (Err refused) new = ((row_of rows n).length < start + length old) × (new ≡ old)
+abbrev pub ExpandsTo : List Row → ℕ → ℕ → List ℕ → Result (Unit {0}) OutOfStrip → List ℕ → Type 0
+ExpandsTo rows n start old (Ok done) new = (start + length old ≤ (row_of rows n).length) × (new ≡ written_out rows n start (length old))
+ExpandsTo rows n start old (Err refused) new = ((row_of rows n).length < start + length old) × (new ≡ old)
 
 -- the length that a part of row n keeps: a part that is not below its row stands for the empty strip
 abbrev pub part_length : List Row → ℕ → ℕ → ℕ

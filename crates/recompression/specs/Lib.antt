@@ -2,6 +2,6 @@
 pub mod Tables
 pub mod Contents
 pub mod InPlace
-pub mod Settling
+pub mod Settlements
 pub mod Expansions
 pub mod Codes

@@ -17,8 +17,8 @@ is_blank_shape (Pair left right) = false
 is_blank_shape (Repeat part times) = false
 
 -- whether a row is the blank one
-abbrev pub is_blank : Row → Bool
-is_blank row = is_blank_shape row.shape && row.length == 0 && row.round == 0
+abbrev pub is_blank_row : Row → Bool
+is_blank_row row = is_blank_shape row.shape && row.length == 0 && row.round == 0
 
 -- each row keeps the length of its strip, as far as the field can hold it. A number that is not known has
 -- the empty strip and the blank row, so that this holds of every number
@@ -30,7 +30,7 @@ abbrev pub Sound : Slots → Type 0
 Sound s =
     (length s.rows ≡ 1024)
     × (s.count ≤ 1024)
-    × ((k : ℕ) → s.count ≤ k → is_blank (slice_index_or s.rows k blank_row) ≡ true)
+    × ((k : ℕ) → s.count ≤ k → is_blank_row (slice_index_or s.rows k blank_row) ≡ true)
     × LengthsKept (in_use s)
 
 -- slots with a row put after those in use

@@ -7,6 +7,7 @@ pub mod RoundFacts
 pub mod KeepFacts
 pub mod LawfulFacts
 pub mod SettleFacts
+pub mod RoundLaws
 pub mod OneNumber
 pub mod LeafFacts
 pub mod ShapeFacts

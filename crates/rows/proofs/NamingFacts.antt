@@ -1,10 +1,11 @@
 -- Blocks named by rows that have them all: rounds that add nothing, and their replay on grown rows.
 -- Assumes nothing.
-use Rattle.std.proofs.Common.{◌≡◌, ℕ, zero, suc, ◌+◌, ltb, List, [], ◌∷◌, ◌++◌, map, length, Some, None, Option, sym, refl, ap, ◌∙◌, subst, inl, inr, arith}
+use Rattle.std.proofs.Common.{◌≡◌, ℕ, zero, suc, ◌+◌, ◌<◌, ◌≤◌, ltb, ◌⊎◌, List, [], ◌∷◌, ◌++◌, map, length, Some, None, Option, sym, refl, ap, ◌∙◌, subst, inl, inr, arith}
 use Rattle.std.proofs.lemmas.List.{append-nil, append_assoc}
-use Rattle.std.proofs.lemmas.Bool.{cases_Bool, cond-true, cond-false}
+use Rattle.std.proofs.lemmas.Bool.{cases_lt, cond-true, cond-false, lt-ltb, le-ltb}
 use Rattle.rows.specs.declared.Row.{Row}
 use Rattle.rows.specs.Filing.{find, file}
+use Rattle.rows.specs.Laws.{after_rounds}
 use Rattle.rows.specs.Rounds.{Block, one, new, blocks, Filed, then, with_number, file_all, round, Settled, settled, rounds_from, leaf_block, leaves, enough_rounds, settle}
 use Rattle.rows.proofs.FilingFacts.{find_append, file_grows, file_found}
 
@@ -123,19 +124,41 @@ file_all_grows k (new shape ∷ bs) rows f h =
       names = (still, inner.names);
     })
 
+-- the rounds stop at a string of at most one number, and go on at a longer one
+pub rounds_stop : (most k : ℕ) (f : Filed) → length f.numbers < 2 → rounds_from most k f ≡ Some (settled f k)
+unfolding rounds_from
+rounds_stop zero k f few = refl
+rounds_stop (suc most) k f few = cond-true (ltb (length f.numbers) 2) (Some (settled f k)) (then (round (k + 1) f) (rounds_from most (k + 1))) (lt-ltb (length f.numbers) 2 few)
+
+pub rounds_go : (most k : ℕ) (f : Filed) → 2 ≤ length f.numbers → rounds_from (suc most) k f ≡ then (round (k + 1) f) (rounds_from most (k + 1))
+unfolding rounds_from
+rounds_go most k f many = cond-false (ltb (length f.numbers) 2) (Some (settled f k)) (then (round (k + 1) f) (rounds_from most (k + 1))) (le-ltb (length f.numbers) 2 many)
+
+pub rounds_spent : (k : ℕ) (f : Filed) → rounds_from 0 k f ≡ Some (settled f k)
+unfolding rounds_from
+rounds_spent k f = refl
+
+-- what was come to by the rounds: they stopped, or ran one and went on from what it left
+pub rounds_step : (most k : ℕ) (f : Filed) (s : Settled) → rounds_from (suc most) k f ≡ Some s
+    → ((length f.numbers < 2) × (settled f k ≡ s)) ⊎ ((2 ≤ length f.numbers) × (g : Filed) × (round (k + 1) f ≡ Some g) × (rounds_from most (k + 1) g ≡ Some s))
+rounds_step most k f s h =
+    elim (cases_lt (length f.numbers) 2) [
+      | inl few ↦ inl (few, (let e = sym (rounds_stop (suc most) k f few) ∙ h in cc))
+      | inr many ↦
+          let next = then_some (round (k + 1) f) (rounds_from most (k + 1)) s (sym (rounds_go most k f many) ∙ h) in
+          inr (many, next.0, next.1, next.2)
+    ]
+
 -- rounds only add rows
 pub rounds_grow : (most k : ℕ) (f : Filed) (s : Settled) → rounds_from most k f ≡ Some s → (added : List Row) × (s.rows ≡ f.rows ++ added)
 unfolding rounds_from
 rounds_grow zero k f s h = let e : settled f k ≡ s = cc in ([], ap (λ g. g.rows) (sym e) ∙ sym (append-nil f.rows))
 rounds_grow (suc most) k f s h =
-    elim (cases_Bool (ltb (length f.numbers) 2)) [
-      | inl done ↦
-          let e : settled f k ≡ s = let g = sym (cond-true (ltb (length f.numbers) 2) (Some (settled f k)) (then (round (k + 1) f) (rounds_from most (k + 1))) done) ∙ h in cc in
-          ([], ap (λ g. g.rows) (sym e) ∙ sym (append-nil f.rows))
+    elim (rounds_step most k f s h) [
+      | inl stopped ↦ ([], ap (λ g. g.rows) (sym stopped.1) ∙ sym (append-nil f.rows))
       | inr on ↦
-          let next = then_some (round (k + 1) f) (rounds_from most (k + 1)) s (sym (cond-false (ltb (length f.numbers) 2) (Some (settled f k)) (then (round (k + 1) f) (rounds_from most (k + 1))) on) ∙ h) in
-          let this = file_all_grows (k + 1) (blocks (k + 1) f.numbers) f.rows next.0 next.1 in
-          let rest = rounds_grow most (k + 1) next.0 s next.2 in
+          let this = file_all_grows (k + 1) (blocks (k + 1) f.numbers) f.rows on.1 on.2 in
+          let rest = rounds_grow most (k + 1) on.1 s on.3 in
           (this.added ++ rest.0, rest.1 ∙ ap (λ rs. rs ++ rest.0) this.grows ∙ append_assoc f.rows this.added rest.0)
     ]
 
@@ -146,20 +169,32 @@ unfolding rounds_from
 rounds_replay zero k f s more h = let e : settled f k ≡ s = cc in ap (λ g. Some (record { numbers = g.numbers; rows = s.rows ++ more; rounds = g.rounds })) e
 rounds_replay (suc most) k f s more h =
     let again : Filed = record { numbers = f.numbers; rows = s.rows ++ more } in
-    elim (cases_Bool (ltb (length f.numbers) 2)) [
-      | inl done ↦
-          let e : settled f k ≡ s = let g = sym (cond-true (ltb (length f.numbers) 2) (Some (settled f k)) (then (round (k + 1) f) (rounds_from most (k + 1))) done) ∙ h in cc in
-          cond-true (ltb (length f.numbers) 2) (Some (settled again k)) (then (round (k + 1) again) (rounds_from most (k + 1))) done
-          ∙ ap (λ g. Some (record { numbers = g.numbers; rows = s.rows ++ more; rounds = g.rounds })) e
+    elim (rounds_step most k f s h) [
+      | inl stopped ↦ rounds_stop (suc most) k again stopped.0 ∙ ap (λ g. Some (record { numbers = g.numbers; rows = s.rows ++ more; rounds = g.rounds })) stopped.1
       | inr on ↦
-          let next = then_some (round (k + 1) f) (rounds_from most (k + 1)) s (sym (cond-false (ltb (length f.numbers) 2) (Some (settled f k)) (then (round (k + 1) f) (rounds_from most (k + 1))) on) ∙ h) in
-          let this = file_all_grows (k + 1) (blocks (k + 1) f.numbers) f.rows next.0 next.1 in
-          let rest = rounds_grow most (k + 1) next.0 s next.2 in
-          let all_rows : s.rows ++ more ≡ next.0.rows ++ (rest.0 ++ more) = ap (λ rs. rs ++ more) rest.1 ∙ append_assoc next.0.rows rest.0 more in
-          let names = subst (λ rs. Named rs (blocks (k + 1) f.numbers) next.0.numbers) (sym all_rows) (named_append next.0.rows (rest.0 ++ more) (blocks (k + 1) f.numbers) next.0.numbers this.names) in
-          cond-false (ltb (length f.numbers) 2) (Some (settled again k)) (then (round (k + 1) again) (rounds_from most (k + 1))) on
-          ∙ ap (λ o. then o (rounds_from most (k + 1))) (file_named (k + 1) (blocks (k + 1) f.numbers) (s.rows ++ more) next.0.numbers names)
-          ∙ rounds_replay most (k + 1) next.0 s more next.2
+          let g = on.1 in
+          let this = file_all_grows (k + 1) (blocks (k + 1) f.numbers) f.rows g on.2 in
+          let rest = rounds_grow most (k + 1) g s on.3 in
+          let all_rows : s.rows ++ more ≡ g.rows ++ (rest.0 ++ more) = ap (λ rs. rs ++ more) rest.1 ∙ append_assoc g.rows rest.0 more in
+          let names = subst (λ rs. Named rs (blocks (k + 1) f.numbers) g.numbers) (sym all_rows) (named_append g.rows (rest.0 ++ more) (blocks (k + 1) f.numbers) g.numbers this.names) in
+          rounds_go most k again on.0
+          ∙ ap (λ o. then o (rounds_from most (k + 1))) (file_named (k + 1) (blocks (k + 1) f.numbers) (s.rows ++ more) g.numbers names)
+          ∙ rounds_replay most (k + 1) g s more on.3
+    ]
+
+-- rounds that go on after j rounds are rounds on end
+rounds_on_end : (most k : ℕ) (rows : List Row) (codes : List ℕ) (f : Filed) (s : Settled) → after_rounds k rows codes ≡ Some f → rounds_from most k f ≡ Some s
+    → after_rounds s.rounds rows codes ≡ Some (record { numbers = s.numbers; rows = s.rows })
+unfolding rounds_from after_rounds
+rounds_on_end zero k rows codes f s so_far h =
+    let e : settled f k ≡ s = cc in
+    subst (λ g. after_rounds g.rounds rows codes ≡ Some (record { numbers = g.numbers; rows = g.rows })) e so_far
+rounds_on_end (suc most) k rows codes f s so_far h =
+    elim (rounds_step most k f s h) [
+      | inl stopped ↦ subst (λ g. after_rounds g.rounds rows codes ≡ Some (record { numbers = g.numbers; rows = g.rows })) stopped.1 so_far
+      | inr on ↦
+          let e : suc k ≡ k + 1 = omega arith in
+          rounds_on_end most (k + 1) rows codes on.1 s (ap (λ i. after_rounds i rows codes) (sym e) ∙ ap (λ o. then o (round (suc k))) so_far ∙ ap (λ i. round i f) e ∙ on.2) on.3
     ]
 
 -- a strip that was settled settles alike on the rows that it left and any rows after them
@@ -167,6 +202,13 @@ pub settle_parts : (rows : List Row) (codes : List ℕ) (s : Settled) → settle
     → (f : Filed) × (leaves rows codes ≡ Some f) × (rounds_from (enough_rounds (length codes)) 0 f ≡ Some s)
 unfolding settle
 settle_parts rows codes s h = then_some (leaves rows codes) (rounds_from (enough_rounds (length codes)) 0) s h
+
+-- settling is a number of rounds on end
+pub settles_by_rounds : (rows : List Row) (codes : List ℕ) (s : Settled) → settle rows codes ≡ Some s → after_rounds s.rounds rows codes ≡ Some (record { numbers = s.numbers; rows = s.rows })
+unfolding after_rounds
+settles_by_rounds rows codes s h =
+    let parts = settle_parts rows codes s h in
+    rounds_on_end (enough_rounds (length codes)) 0 rows codes parts.0 s parts.1 parts.2
 
 pub settle_grows : (rows : List Row) (codes : List ℕ) (s : Settled) → settle rows codes ≡ Some s → (added : List Row) × (s.rows ≡ rows ++ added)
 settle_grows rows codes s h =

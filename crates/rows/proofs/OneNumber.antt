@@ -2,11 +2,11 @@
 use Rattle.std.proofs.Common.{◌≡◌, ℕ, ◌≤◌, ◌↔◌, List, [], ◌∷◌, ◌++◌, length, Some, sym, refl, ap, ◌∙◌, arith, length-append}
 use Rattle.std.proofs.lemmas.List.{append-nil}
 use Rattle.rows.specs.declared.Row.{Row}
+use Rattle.rows.specs.Laws.{Known}
 use Rattle.rows.specs.Lawful.{Lawful}
 use Rattle.rows.specs.Rounds.{Settled, settle, number_left}
 use Rattle.rows.specs.Strips.{strip}
 use Rattle.rows.proofs.NamingFacts.{settle_replay}
-use Rattle.rows.proofs.RoundFacts.{Known}
 use Rattle.rows.proofs.SettleFacts.{settles, strip_settled}
 use Rattle.rows.proofs.StripFacts.{strip_append}
 

@@ -1,22 +1,12 @@
 -- A round's blocks spell the string that they were read from, and any part of them is what its own string
 -- is read as. Assumes nothing.
 use Rattle.std.proofs.Common.{◌≡◌, ℕ, zero, suc, ◌+◌, ◌%◌, ◌≤◌, Bool, true, false, cond, not, eqb, ltb, List, [], ◌∷◌, ◌++◌, replicate, sym, refl, ap, ◌∙◌, subst, arith}
-use Rattle.std.specs.List.{flat_map, AllByRecursion}
+use Rattle.std.specs.List.{AllByRecursion}
 use Rattle.std.proofs.lemmas.List.{append_assoc, replicate_more}
 use Rattle.std.proofs.lemmas.Bool.{both_ways, cond_both, cond-true, cond-false, and_parts, and_left, not-true, eqb-true, eq-eqb, ltb-true, ltb-false, le-ltb}
 use Rattle.rows.specs.declared.Shape.TheVariants.{Leaf, Pair, Repeat}
+use Rattle.rows.specs.Laws.{symbols, spelled}
 use Rattle.rows.specs.Rounds.{Block, one, new, stretch, stretches_from, stretches, is_left, joins, pairs, pairs_from, blocks}
-
--- the numbers that a block was read from
-abbrev pub symbols : Block → List ℕ
-symbols (one n) = n ∷ []
-symbols (new (Leaf code)) = []
-symbols (new (Pair left right)) = left ∷ right ∷ []
-symbols (new (Repeat part count)) = replicate count part
-
--- the string that blocks were read from
-abbrev pub spelled : List Block → List ℕ
-spelled bs = flat_map symbols bs
 
 -- a block that round k makes: a single number, a joining pair in even rounds, a repeat in odd rounds
 abbrev pub InRound : ℕ → Block → Type 0

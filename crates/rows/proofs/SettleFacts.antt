@@ -3,21 +3,22 @@
 use Rattle.std.proofs.Common.{◌≡◌, ℕ, zero, suc, ◌+◌, ◌*◌, ◌<◌, ◌≤◌, true, ◌&&◌, ltb, leb, ◌⊎◌, List, [], ◌∷◌, ◌++◌, map, length, take, replicate, Some, None, sym, refl, ap, ◌∙◌, subst, inl, inr, arith, length-append}
 use lib.ListN.{length-map}
 use Rattle.std.proofs.lemmas.List.{append-nil, append_assoc, length_push, take_all, length-replicate}
-use Rattle.std.proofs.lemmas.Bool.{cases_Bool, cases_eq, cases_lt, cond-true, cond-false, and_from, lt-ltb, le-leb, ltb-true}
+use Rattle.std.proofs.lemmas.Bool.{cases_eq, cases_lt, and_from, lt-ltb, le-leb}
 use Rattle.std.specs.List.{AllByRecursion}
 use Rattle.rows.specs.declared.Shape.{Shape}
 use Rattle.rows.specs.declared.Shape.TheVariants.{Leaf, Pair, Repeat}
 use Rattle.rows.specs.declared.Row.{Row}
 use Rattle.rows.specs.Filing.{find, row_of, shape_length, row_made, file}
+use Rattle.rows.specs.Laws.{Known, symbols, spelled, after_rounds}
 use Rattle.rows.specs.Lawful.{parts_below, lawful_row, Lawful}
 use Rattle.rows.specs.Rounds.{Block, one, new, blocks, Filed, then, with_number, file_all, round, Settled, settled, rounds_from, leaf_block, enough_rounds, settle, number_left}
 use Rattle.rows.specs.Strips.{times, strip, expanded}
 use Rattle.rows.proofs.FilingFacts.{find_added, file_grows}
 use Rattle.rows.proofs.KeepFacts.{shape_expanded, comes_keeps, leaves_keep, leaves_known, leaves_split}
 use Rattle.rows.proofs.LawfulFacts.{RowLawful, test_from_row, row_lawful_append, row_lawful, lawful_parts}
-use Rattle.rows.proofs.NamingFacts.{Named, named_append, length_named, file_named, file_all_grows, then_some, rounds_grow, settle_parts, settle_grows}
-use Rattle.rows.proofs.Parsing.{symbols, spelled, InRound, spelled_append, spelled_blocks, blocks_part, block_kinds}
-use Rattle.rows.proofs.RoundFacts.{Comes, comes_append, comes_known, comes_settle, rounds_come, fragment_comes, Known, rounds_few, comes_shorter}
+use Rattle.rows.proofs.NamingFacts.{Named, named_append, length_named, file_named, file_all_grows, then_some, rounds_step, settle_parts, settles_by_rounds, settle_grows}
+use Rattle.rows.proofs.Parsing.{InRound, spelled_append, spelled_blocks, blocks_part, block_kinds}
+use Rattle.rows.proofs.RoundFacts.{Comes, comes_append, comes_known, comes_settle, fragment_comes, rounds_few, comes_shorter}
 use Rattle.rows.proofs.StripFacts.{Parts, shape_strip, strip_added, written_strip, shape_strip_append, row_added, row_append, strip_none, expanded_one}
 
 -- a lawful row added after lawful rows
@@ -36,7 +37,7 @@ lawful_one_more rows row law room new_row = (
 )
 
 -- the parts of rows with one more
-parts_one_more : (rows : List Row) (row : Row) → Parts rows → parts_below (length rows + 1) row.shape ≡ true → Parts (rows ++ (row ∷ []))
+pub parts_one_more : (rows : List Row) (row : Row) → Parts rows → parts_below (length rows + 1) row.shape ≡ true → Parts (rows ++ (row ∷ []))
 parts_one_more rows row parts new_parts n some within =
     elim (cases_eq n (length rows + 1)) [
       | inl last ↦
@@ -75,7 +76,7 @@ shape_long rows k (Repeat part count) law kind known short =
     first_known (suc m) some all = all.0
 
 -- the parts of a shape that a round makes are known
-shape_parts : (rows : List Row) (k : ℕ) (shape : Shape) → InRound k (new shape) → Known rows (symbols (new shape)) → parts_below (length rows + 1) shape ≡ true
+pub shape_parts : (rows : List Row) (k : ℕ) (shape : Shape) → InRound k (new shape) → Known rows (symbols (new shape)) → parts_below (length rows + 1) shape ≡ true
 shape_parts rows k (Leaf code) kind known = refl
 shape_parts rows k (Pair left right) kind known =
     let n = length rows + 1 in
@@ -96,7 +97,7 @@ shape_two k (Leaf code) kind = absurd kind
 shape_two k (Pair left right) kind = omega arith
 shape_two k (Repeat part count) kind = omega (arith, length-replicate count part, kind.1)
 
-known_append : (rows more : List Row) (numbers : List ℕ) → Known rows numbers → Known (rows ++ more) numbers
+pub known_append : (rows more : List Row) (numbers : List ℕ) → Known rows numbers → Known (rows ++ more) numbers
 known_append rows more [] known = tt
 known_append rows more (n ∷ numbers) known = ((known.0.0, omega (arith, known.0.1, length-append rows more)), known_append rows more numbers known.1)
 
@@ -198,41 +199,47 @@ leaf_lawful rows code law absent room =
           ∙ ap (λ r. Some (record { numbers = number ∷ []; rows = take number grown; rounds = r.round })) (sym is);
     })
 
--- filing keeps rows lawful where each new shape may be added
-abbrev Addable : ℕ → List Row → Block → Type 0
-Addable k rows (one n) = Unit {0}
-Addable k rows (new shape) = (more : List Row) → Lawful (rows ++ more) → find (rows ++ more) shape ≡ None → length (rows ++ more) < 1024 → Lawful ((rows ++ more) ++ (row_made k (rows ++ more) shape ∷ []))
+-- filing keeps a property of the rows, where each new shape may be added
+module _ (P : List Row → Type 0) where
+  abbrev pub Addable : ℕ → List Row → Block → Type 0
+  Addable k rows (one n) = Unit {0}
+  Addable k rows (new shape) = (more : List Row) → P (rows ++ more) → find (rows ++ more) shape ≡ None → length (rows ++ more) < 1024 → P ((rows ++ more) ++ (row_made k (rows ++ more) shape ∷ []))
 
-filing_lawful : (k : ℕ) (rows more : List Row) (bs : List Block) (f : Filed) → AllByRecursion (Addable k rows) bs → Lawful (rows ++ more) → file_all k bs (rows ++ more) ≡ Some f → Lawful f.rows
-unfolding file_all
-filing_lawful k rows more [] f addable law h = let e : record { numbers = []; rows = rows ++ more } ≡ f = cc in subst (λ g. Lawful g.rows) e law
-filing_lawful k rows more (one n ∷ bs) f addable law h =
-    let rest = then_some (file_all k bs (rows ++ more)) (with_number n) f h in
-    let e : record { numbers = n ∷ rest.0.numbers; rows = rest.0.rows } ≡ f = let g = rest.2 in cc in
-    subst (λ g. Lawful g.rows) e (filing_lawful k rows more bs rest.0 addable.1 law rest.1)
-filing_lawful k rows more (new shape ∷ bs) f addable law h =
-    let first = then_some (file k (rows ++ more) shape) (λ found. then (file_all k bs found.rows) (with_number found.number)) f h in
-    let found = first.0 in
-    let rest = then_some (file_all k bs found.rows) (with_number found.number) f first.2 in
-    let e : record { numbers = found.number ∷ rest.0.numbers; rows = rest.0.rows } ≡ f = let g = rest.2 in cc in
-    let grows = file_grows k (rows ++ more) shape found first.1 in
-    let regroup : found.rows ≡ rows ++ (more ++ grows.added) = grows.grows ∙ append_assoc rows more grows.added in
-    let still : Lawful (rows ++ (more ++ grows.added)) =
-    subst Lawful (append_assoc rows more grows.added)
-    (elim grows.cases [
-      | inl old ↦ subst (λ rs. Lawful ((rows ++ more) ++ rs)) (sym old.0) (subst Lawful (sym (append-nil (rows ++ more))) law)
-      | inr made ↦ subst (λ rs. Lawful ((rows ++ more) ++ rs)) (sym made.0) (addable.0 more law made.1 made.2)
-    ]) in
-    subst (λ g. Lawful g.rows) e (filing_lawful k rows (more ++ grows.added) bs rest.0 addable.1 still (subst (λ rs. file_all k bs rs ≡ Some rest.0) regroup rest.1))
+  filing_on : (k : ℕ) (rows more : List Row) (bs : List Block) (f : Filed) → AllByRecursion (Addable k rows) bs → P (rows ++ more) → file_all k bs (rows ++ more) ≡ Some f → P f.rows
+  unfolding file_all
+  filing_on k rows more [] f addable holds h = let e : record { numbers = []; rows = rows ++ more } ≡ f = cc in subst (λ g. P g.rows) e holds
+  filing_on k rows more (one n ∷ bs) f addable holds h =
+      let rest = then_some (file_all k bs (rows ++ more)) (with_number n) f h in
+      let e : record { numbers = n ∷ rest.0.numbers; rows = rest.0.rows } ≡ f = let g = rest.2 in cc in
+      subst (λ g. P g.rows) e (filing_on k rows more bs rest.0 addable.1 holds rest.1)
+  filing_on k rows more (new shape ∷ bs) f addable holds h =
+      let first = then_some (file k (rows ++ more) shape) (λ found. then (file_all k bs found.rows) (with_number found.number)) f h in
+      let found = first.0 in
+      let rest = then_some (file_all k bs found.rows) (with_number found.number) f first.2 in
+      let e : record { numbers = found.number ∷ rest.0.numbers; rows = rest.0.rows } ≡ f = let g = rest.2 in cc in
+      let grows = file_grows k (rows ++ more) shape found first.1 in
+      let regroup : found.rows ≡ rows ++ (more ++ grows.added) = grows.grows ∙ append_assoc rows more grows.added in
+      let still : P (rows ++ (more ++ grows.added)) =
+      subst P (append_assoc rows more grows.added)
+      (elim grows.cases [
+        | inl old ↦ subst (λ rs. P ((rows ++ more) ++ rs)) (sym old.0) (subst P (sym (append-nil (rows ++ more))) holds)
+        | inr made ↦ subst (λ rs. P ((rows ++ more) ++ rs)) (sym made.0) (addable.0 more holds made.1 made.2)
+      ]) in
+      subst (λ g. P g.rows) e (filing_on k rows (more ++ grows.added) bs rest.0 addable.1 still (subst (λ rs. file_all k bs rs ≡ Some rest.0) regroup rest.1))
+
+  pub filing_keeps : (k : ℕ) (rows : List Row) (bs : List Block) (f : Filed) → AllByRecursion (Addable k rows) bs → P rows → file_all k bs rows ≡ Some f → P f.rows
+  filing_keeps k rows bs f addable holds h =
+      let none = append-nil rows in
+      filing_on k rows [] bs f addable (subst P (sym none) holds) (ap (file_all k bs) none ∙ h)
 
 -- leaves keep rows lawful
-leaves_addable : (rows : List Row) (codes : List ℕ) → AllByRecursion (Addable 0 rows) (map leaf_block codes)
+leaves_addable : (rows : List Row) (codes : List ℕ) → AllByRecursion (Addable Lawful 0 rows) (map leaf_block codes)
 leaves_addable rows [] = tt
 leaves_addable rows (c ∷ codes) = (λ more law absent room. leaf_lawful (rows ++ more) c law absent room, leaves_addable rows codes)
 
 -- the blocks of a round on a string that came from leaves may be added
 module _ (rows : List Row) (codes source : List ℕ) (short : length codes ≤ 65535) (leaf_names : Named rows (map leaf_block codes) source) (j : ℕ) (u : List ℕ) (history : Comes rows j source u) where
-  block_addable : (before : List Block) (b : Block) (after : List Block) → blocks (suc j) u ≡ before ++ (b ∷ after) → InRound (suc j) b → Addable (suc j) rows b
+  block_addable : (before : List Block) (b : Block) (after : List Block) → blocks (suc j) u ≡ before ++ (b ∷ after) → InRound (suc j) b → Addable Lawful (suc j) rows b
   block_addable before (one n) after parsed kind = tt
   block_addable before (new shape) after parsed kind = λ more law absent room.
       let single = blocks_part (suc j) u before (new shape ∷ []) after parsed in
@@ -245,38 +252,41 @@ module _ (rows : List Row) (codes source : List ℕ) (short : length codes ≤ 6
       shape_lawful (rows ++ more) law j shape kind single_s absent room back.0 part.source inside
       (named_append rows more (map leaf_block back.0) part.source back.3) (comes_append rows more j part.source (symbols (new shape)) part.comes)
 
-  all_addable : (before bs : List Block) → blocks (suc j) u ≡ before ++ bs → AllByRecursion (InRound (suc j)) bs → AllByRecursion (Addable (suc j) rows) bs
+  all_addable : (before bs : List Block) → blocks (suc j) u ≡ before ++ bs → AllByRecursion (InRound (suc j)) bs → AllByRecursion (Addable Lawful (suc j) rows) bs
   all_addable before [] parsed kinds = tt
   all_addable before (b ∷ bs) parsed kinds =
       (block_addable before b bs parsed kinds.0, all_addable (before ++ (b ∷ [])) bs (parsed ∙ sym (append_assoc before (b ∷ []) bs)) kinds.1)
 
-  round_addable : AllByRecursion (Addable (suc j) rows) (blocks (suc j) u)
+  round_addable : AllByRecursion (Addable Lawful (suc j) rows) (blocks (suc j) u)
   round_addable = all_addable [] (blocks (suc j) u) refl (block_kinds (suc j) u)
 
--- a round, and all rounds, keep rows lawful
-rounds_lawful : (most k : ℕ) (f : Filed) (s : Settled) (codes source : List ℕ) → length codes ≤ 65535 → Named f.rows (map leaf_block codes) source → Comes f.rows k source f.numbers
-    → Lawful f.rows → rounds_from most k f ≡ Some s → Lawful s.rows
-unfolding rounds_from
-rounds_lawful zero k f s codes source short names history law h = let e : settled f k ≡ s = cc in subst (λ g. Lawful g.rows) e law
-rounds_lawful (suc most) k f s codes source short names history law h =
-    elim (cases_Bool (ltb (length f.numbers) 2)) [
-      | inl done ↦
-          let e : settled f k ≡ s = let g = sym (cond-true (ltb (length f.numbers) 2) (Some (settled f k)) (then (round (k + 1) f) (rounds_from most (k + 1))) done) ∙ h in cc in
-          subst (λ g. Lawful g.rows) e law
-      | inr on ↦
-          let next = then_some (round (k + 1) f) (rounds_from most (k + 1)) s (sym (cond-false (ltb (length f.numbers) 2) (Some (settled f k)) (then (round (k + 1) f) (rounds_from most (k + 1))) on) ∙ h) in
-          let g = next.0 in
-          let this = file_all_grows (k + 1) (blocks (k + 1) f.numbers) f.rows g next.1 in
-          let e : suc k ≡ k + 1 = omega arith in
-          let all_new = round_addable f.rows codes source short names k f.numbers history in
-          let run : file_all (suc k) (blocks (suc k) f.numbers) (f.rows ++ []) ≡ Some g =
-          ap (file_all (suc k) (blocks (suc k) f.numbers)) (append-nil f.rows) ∙ ap (λ i. file_all i (blocks i f.numbers) f.rows) e ∙ next.1 in
-          let g_law = filing_lawful (suc k) f.rows [] (blocks (suc k) f.numbers) g all_new (subst Lawful (sym (append-nil f.rows)) law) run in
-          let g_names = subst (λ rs. Named rs (map leaf_block codes) source) (sym this.grows) (named_append f.rows this.added (map leaf_block codes) source names) in
-          let before = subst (λ rs. Comes rs k source f.numbers) (sym this.grows) (comes_append f.rows this.added k source f.numbers history) in
-          let g_history = subst (λ i. Comes g.rows i source g.numbers) e (f.numbers, before, subst (λ i. Named g.rows (blocks i f.numbers) g.numbers) (sym e) this.names) in
-          rounds_lawful most (k + 1) g s codes source short g_names g_history g_law next.2
-    ]
+-- what stands after j rounds: lawful rows, and a string that j rounds made of the leaves of the codes
+pub record Standing (j : ℕ) (codes : List ℕ) (f : Filed) : Type 0 where
+  pub lawful : Lawful f.rows
+  pub source : List ℕ
+  pub names : Named f.rows (map leaf_block codes) source
+  pub history : Comes f.rows j source f.numbers
+
+pub after_stands : (j : ℕ) (rows : List Row) (codes : List ℕ) (f : Filed) → Lawful rows → length codes ≤ 65535 → after_rounds j rows codes ≡ Some f → Standing j codes f
+unfolding after_rounds
+after_stands zero rows codes f law short h =
+    record {
+      lawful = filing_keeps Lawful 0 rows (map leaf_block codes) f (leaves_addable rows codes) law h;
+      source = f.numbers;
+      names = (file_all_grows 0 (map leaf_block codes) rows f h).names;
+      history = refl;
+    }
+after_stands (suc j) rows codes f law short h =
+    let last = then_some (after_rounds j rows codes) (round (suc j)) f h in
+    let g = last.0 in
+    let before = after_stands j rows codes g law short last.1 in
+    let this = file_all_grows (suc j) (blocks (suc j) g.numbers) g.rows f last.2 in
+    record {
+      lawful = filing_keeps Lawful (suc j) g.rows (blocks (suc j) g.numbers) f (round_addable g.rows codes before.source short before.names j g.numbers before.history) before.lawful last.2;
+      source = before.source;
+      names = subst (λ rs. Named rs (map leaf_block codes) before.source) (sym this.grows) (named_append g.rows this.added (map leaf_block codes) before.source before.names);
+      history = (g.numbers, subst (λ rs. Comes rs j before.source g.numbers) (sym this.grows) (comes_append g.rows this.added j before.source g.numbers before.history), this.names);
+    }
 
 -- what settling a strip on lawful rows gives
 pub record Settles (rows : List Row) (codes : List ℕ) (s : Settled) : Type 0 where
@@ -295,39 +305,28 @@ rounds_used : (most k : ℕ) (f : Filed) (s : Settled) → rounds_from most k f 
 unfolding rounds_from
 rounds_used zero k f s h = let e : settled f k ≡ s = cc in inr (sym (ap (λ g. g.rounds) e) ∙ (let z : k ≡ k + 0 = omega arith in z))
 rounds_used (suc most) k f s h =
-    elim (cases_Bool (ltb (length f.numbers) 2)) [
-      | inl done ↦
-          let e : settled f k ≡ s = let g = sym (cond-true (ltb (length f.numbers) 2) (Some (settled f k)) (then (round (k + 1) f) (rounds_from most (k + 1))) done) ∙ h in cc in
-          inl (subst (λ g. length g.numbers < 2) e (ltb-true (length f.numbers) 2 done))
-      | inr on ↦
-          let next = then_some (round (k + 1) f) (rounds_from most (k + 1)) s (sym (cond-false (ltb (length f.numbers) 2) (Some (settled f k)) (then (round (k + 1) f) (rounds_from most (k + 1))) on) ∙ h) in
-          elim (rounds_used most (k + 1) next.0 s next.2) [ inl few ↦ inl few | inr all ↦ inr (all ∙ (let z : k + 1 + most ≡ k + suc most = omega arith in z)) ]
+    elim (rounds_step most k f s h) [
+      | inl stopped ↦ inl (subst (λ g. length g.numbers < 2) stopped.1 stopped.0)
+      | inr on ↦ elim (rounds_used most (k + 1) on.1 s on.3) [ inl few ↦ inl few | inr all ↦ inr (all ∙ (let z : k + 1 + most ≡ k + suc most = omega arith in z)) ]
     ]
 
 pub settles : (rows : List Row) (codes : List ℕ) (s : Settled) → Lawful rows → length codes ≤ 65535 → settle rows codes ≡ Some s → Settles rows codes s
 settles rows codes s law short h =
     let pieces = settle_parts rows codes s h in
-    let f = pieces.0 in
-    let first = file_all_grows 0 (map leaf_block codes) rows f pieces.1 in
-    let f_law : Lawful f.rows =
-    filing_lawful 0 rows [] (map leaf_block codes) f (leaves_addable rows codes) (subst Lawful (sym (append-nil rows)) law) (ap (file_all 0 (map leaf_block codes)) (append-nil rows) ∙ pieces.1) in
-    let s_law = rounds_lawful (enough_rounds (length codes)) 0 f s codes f.numbers short first.names refl f_law pieces.2 in
-    let rest = rounds_grow (enough_rounds (length codes)) 0 f s pieces.2 in
-    let s_names = subst (λ rs. Named rs (map leaf_block codes) f.numbers) (sym rest.1) (named_append f.rows rest.0 (map leaf_block codes) f.numbers first.names) in
-    let s_history = rounds_come (enough_rounds (length codes)) 0 f s f.numbers pieces.2 refl in
-    let source_known = leaves_known s.rows codes f.numbers s_names in
-    let all_parts = lawful_parts s.rows s_law in
+    let is = after_stands s.rounds rows codes (record { numbers = s.numbers; rows = s.rows }) law short (settles_by_rounds rows codes s h) in
+    let source_known = leaves_known s.rows codes is.source is.names in
+    let all_parts = lawful_parts s.rows is.lawful in
     let grown = settle_grows rows codes s h in
     record {
-      lawful = s_law;
+      lawful = is.lawful;
       added = grown.0;
       grows = grown.1;
-      left = at_most_one f.numbers (rounds_used (enough_rounds (length codes)) 0 f s pieces.2) (length_named s.rows (map leaf_block codes) f.numbers s_names ∙ length-map codes leaf_block) source_known s_history s_law.0;
-      known = comes_known s.rows s.rounds f.numbers s.numbers source_known s_history;
-      strips = comes_keeps s.rows all_parts s.rounds f.numbers s.numbers s_history ∙ leaves_keep s.rows all_parts codes f.numbers s_names;
-      source = f.numbers;
-      names = s_names;
-      history = s_history;
+      left = at_most_one is.source (rounds_used (enough_rounds (length codes)) 0 pieces.0 s pieces.2) (length_named s.rows (map leaf_block codes) is.source is.names ∙ length-map codes leaf_block) source_known is.history is.lawful.0;
+      known = comes_known s.rows s.rounds is.source s.numbers source_known is.history;
+      strips = comes_keeps s.rows all_parts s.rounds is.source s.numbers is.history ∙ leaves_keep s.rows all_parts codes is.source is.names;
+      source = is.source;
+      names = is.names;
+      history = is.history;
     }
   where
     at_most_one : (source : List ℕ) → (length s.numbers < 2) ⊎ (s.rounds ≡ 0 + enough_rounds (length codes)) → length source ≡ length codes → Known s.rows source

@@ -1,16 +1,15 @@
 -- What holds of the shapes of all rows still holds after settling, where it holds of the leaves of the
 -- codes and of all pairs and repeats. Assumes nothing.
-use Rattle.std.proofs.Common.{◌≡◌, ℕ, zero, suc, ◌+◌, ltb, List, [], ◌∷◌, map, length, Some, sym, ◌∙◌, subst, inl, inr}
+use Rattle.std.proofs.Common.{◌≡◌, ℕ, zero, suc, ◌+◌, List, [], ◌∷◌, map, length, Some, sym, subst, inl, inr}
 use Rattle.std.proofs.ByRecursion.{All-append}
-use Rattle.std.proofs.lemmas.Bool.{cases_Bool, cond-true, cond-false}
 use Rattle.std.specs.List.{AllByRecursion}
 use Rattle.rows.specs.declared.Shape.{Shape}
 use Rattle.rows.specs.declared.Shape.TheVariants.{Leaf, Pair, Repeat}
 use Rattle.rows.specs.declared.Row.{Row}
 use Rattle.rows.specs.Filing.{file}
-use Rattle.rows.specs.Rounds.{Block, one, new, blocks, Filed, then, with_number, file_all, round, Settled, settled, rounds_from, leaf_block, enough_rounds, settle}
+use Rattle.rows.specs.Rounds.{Block, one, new, blocks, Filed, then, with_number, file_all, Settled, settled, rounds_from, leaf_block, enough_rounds, settle}
 use Rattle.rows.proofs.FilingFacts.{file_grows}
-use Rattle.rows.proofs.NamingFacts.{then_some, settle_parts}
+use Rattle.rows.proofs.NamingFacts.{then_some, rounds_step, settle_parts}
 use Rattle.rows.proofs.Parsing.{InRound, block_kinds}
 
 module _ (P : Shape → Type 0) where
@@ -51,13 +50,10 @@ module _ (P : Shape → Type 0) where
     unfolding rounds_from
     rounds_shapes zero k f s all h = let e : settled f k ≡ s = cc in subst (λ g. Shapes g.rows) e all
     rounds_shapes (suc most) k f s all h =
-        elim (cases_Bool (ltb (length f.numbers) 2)) [
-          | inl done ↦
-              let e : settled f k ≡ s = let g = sym (cond-true (ltb (length f.numbers) 2) (Some (settled f k)) (then (round (k + 1) f) (rounds_from most (k + 1))) done) ∙ h in cc in
-              subst (λ g. Shapes g.rows) e all
+        elim (rounds_step most k f s h) [
+          | inl stopped ↦ subst (λ g. Shapes g.rows) stopped.1 all
           | inr on ↦
-              let next = then_some (round (k + 1) f) (rounds_from most (k + 1)) s (sym (cond-false (ltb (length f.numbers) 2) (Some (settled f k)) (then (round (k + 1) f) (rounds_from most (k + 1))) on) ∙ h) in
-              rounds_shapes most (k + 1) next.0 s (filed_shapes (k + 1) (blocks (k + 1) f.numbers) f.rows next.0 (round_shapes (k + 1) (blocks (k + 1) f.numbers) (block_kinds (k + 1) f.numbers)) all next.1) next.2
+              rounds_shapes most (k + 1) on.1 s (filed_shapes (k + 1) (blocks (k + 1) f.numbers) f.rows on.1 (round_shapes (k + 1) (blocks (k + 1) f.numbers) (block_kinds (k + 1) f.numbers)) all on.2) on.3
         ]
 
     leaf_shapes : (codes : List ℕ) → AllByRecursion (λ c. P (Leaf c)) codes → AllByRecursion OfBlock (map leaf_block codes)

@@ -1,32 +1,105 @@
--- What the rounds do on lawful rows, each in one statement. Assumes nothing.
-use Rattle.std.specs.Prelude.{◌≡◌, ℕ, ◌≤◌, List, ◌++◌, length, Some}
+-- The laws of the rounds, each in one statement. Assumes nothing.
+use Rattle.std.specs.Prelude.{◌≡◌, ℕ, zero, suc, ◌<◌, ◌≤◌, List, [], ◌∷◌, ◌++◌, length, replicate, Some, Option}
+use Rattle.std.specs.List.{flat_map, AllByRecursion}
+use Rattle.rows.specs.declared.Shape.TheVariants.{Leaf, Pair, Repeat}
 use Rattle.rows.specs.declared.Row.{Row}
 use Rattle.rows.specs.Lawful.{Lawful}
-use Rattle.rows.specs.Rounds.{Settled, settle, number_left}
-use Rattle.rows.specs.Strips.{strip}
+use Rattle.rows.specs.Rounds.{Block, one, new, blocks, Filed, then, round, Settled, rounds_from, leaves, settle, number_left}
+use Rattle.rows.specs.Strips.{strip, expanded}
 
 -- what holds of every strip of at most 65,535 codes that lawful rows settle
-abbrev pub Settling : (List Row → List ℕ → Settled → Type 0) → Type 0
-Settling holds = (rows : List Row) (codes : List ℕ) (s : Settled) → Lawful rows → length codes ≤ 65535 → settle rows codes ≡ Some s → holds rows codes s
+abbrev pub OnceSettled : (List Row → List ℕ → Settled → Type 0) → Type 0
+OnceSettled holds = (rows : List Row) (codes : List ℕ) (s : Settled) → Lawful rows → length codes ≤ 65535 → settle rows codes ≡ Some s
+    → holds rows codes s
 
 -- the rounds end with at most one number: the limit on their count is never what ends them
 abbrev pub RoundsEnd : Type 0
-RoundsEnd = Settling (λ rows codes s. length s.numbers ≤ 1)
+RoundsEnd = OnceSettled (λ rows codes s. length s.numbers ≤ 1)
 
 -- the number left writes the strip
 abbrev pub StripKept : Type 0
-StripKept = Settling (λ rows codes s. strip s.rows (number_left s.numbers) ≡ codes)
+StripKept = OnceSettled (λ rows codes s. strip s.rows (number_left s.numbers) ≡ codes)
 
 -- the rows are lawful again, and begin with those of before
 abbrev pub RowsKept : Type 0
-RowsKept = Settling (λ rows codes s. Lawful s.rows × (added : List Row) × (s.rows ≡ rows ++ added))
+RowsKept = OnceSettled (λ rows codes s. Lawful s.rows × (added : List Row) × (s.rows ≡ rows ++ added))
 
--- on all rows that come after, the strip settles again, adds none, and comes to the same number
-pub record Replayed (rows : List Row) (codes : List ℕ) (n : ℕ) : Type 0 where
+-- on all rows that come after, the strip settles again, adds none, comes to the same number, and runs as many
+-- rounds
+pub record Replayed (rows : List Row) (codes : List ℕ) (s : Settled) : Type 0 where
   pub again : Settled
   pub settles : settle rows codes ≡ Some again
   pub adds_none : again.rows ≡ rows
-  pub comes : number_left again.numbers ≡ n
+  pub comes : number_left again.numbers ≡ number_left s.numbers
+  pub same_rounds : again.rounds ≡ s.rounds
 
 abbrev pub Replays : Type 0
-Replays = Settling (λ rows codes s. (more : List Row) → Replayed (s.rows ++ more) codes (number_left s.numbers))
+Replays = (rows : List Row) (codes : List ℕ) (s : Settled) (more : List Row) → settle rows codes ≡ Some s
+    → Replayed (s.rows ++ more) codes s
+
+-- the strip of number 0 or of a known number is the same after rows were added
+abbrev pub StripsStay : Type 0
+StripsStay = (rows more : List Row) (n : ℕ) → n ≤ length rows → strip (rows ++ more) n ≡ strip rows n
+
+-- all numbers of a string are known
+abbrev pub Known : List Row → List ℕ → Type 0
+Known rows numbers = AllByRecursion (λ n. (0 < n) × (n ≤ length rows)) numbers
+
+-- a round keeps the strip: the strips of the numbers, joined, are the same before and after
+abbrev pub RoundKeepsStrip : Type 0
+RoundKeepsStrip = (k : ℕ) (f g : Filed) → Lawful f.rows → Known f.rows f.numbers → round k f ≡ Some g
+    → expanded g.rows g.numbers ≡ expanded f.rows f.numbers
+
+-- any 44 rounds on end shorten a string of two or more known numbers; they may stop before, at a single number
+abbrev pub RoundsShorten : Type 0
+RoundsShorten = (k : ℕ) (f : Filed) (s : Settled) → length f.rows ≤ 1024 → Known f.rows f.numbers → 2 ≤ length f.numbers
+    → rounds_from 44 k f ≡ Some s → length s.numbers < length f.numbers
+
+-- the numbers that a block was read from
+abbrev pub symbols : Block → List ℕ
+symbols (one n) = n ∷ []
+symbols (new (Leaf code)) = []
+symbols (new (Pair left right)) = left ∷ right ∷ []
+symbols (new (Repeat part count)) = replicate count part
+
+-- the string that blocks were read from
+abbrev pub spelled : List Block → List ℕ
+spelled bs = flat_map symbols bs
+
+-- a string is cut up into its blocks
+abbrev pub BlocksSpell : Type 0
+BlocksSpell = (k : ℕ) (numbers : List ℕ) → spelled (blocks k numbers) ≡ numbers
+
+-- and blocks that stand side by side are those of their own numbers alone
+abbrev pub BlocksLocal : Type 0
+BlocksLocal = (k : ℕ) (numbers : List ℕ) (before middle after : List Block) → blocks k numbers ≡ before ++ (middle ++ after)
+    → blocks k (spelled middle) ≡ middle
+
+-- what the first j rounds make of a strip: its leaves, and then rounds 1 to j
+unfoldable pub after_rounds : ℕ → List Row → List ℕ → Option Filed
+after_rounds zero rows codes = leaves rows codes
+after_rounds (suc j) rows codes = then (after_rounds j rows codes) (round (suc j))
+
+-- what settling leaves is what the rounds that it ran leave
+abbrev pub SettlesByRounds : Type 0
+SettlesByRounds = (rows : List Row) (codes : List ℕ) (s : Settled) → settle rows codes ≡ Some s
+    → after_rounds s.rounds rows codes ≡ Some (record { numbers = s.numbers; rows = s.rows })
+
+-- what holds after any number of rounds on a strip of at most 65,535 codes, where they began on lawful rows
+abbrev pub BetweenRounds : (ℕ → List ℕ → Filed → Type 0) → Type 0
+BetweenRounds holds = (j : ℕ) (rows : List Row) (codes : List ℕ) (f : Filed) → Lawful rows → length codes ≤ 65535 → after_rounds j rows codes ≡ Some f
+    → holds j codes f
+
+-- between the rounds the rows are lawful, and all numbers of the string are known
+abbrev pub LawfulBetween : Type 0
+LawfulBetween = BetweenRounds (λ j codes f. Lawful f.rows × Known f.rows f.numbers)
+
+-- a part of the string after j rounds writes a fragment of the strip, and j rounds on that fragment alone come to
+-- the part, on the same rows, with none added
+pub record IsFragment (j : ℕ) (codes : List ℕ) (rows : List Row) (before part after : List ℕ) : Type 0 where
+  pub writes : codes ≡ expanded rows before ++ (expanded rows part ++ expanded rows after)
+  pub alone : after_rounds j rows (expanded rows part) ≡ Some (record { numbers = part; rows = rows })
+
+abbrev pub PartsAreFragments : Type 0
+PartsAreFragments = BetweenRounds (λ j codes f. (before part after : List ℕ) → f.numbers ≡ before ++ (part ++ after)
+    → IsFragment j codes f.rows before part after)

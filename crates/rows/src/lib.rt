@@ -3,7 +3,20 @@
 // strips that rows write, the recompression rounds, and the properties of a shelf's rows.
 #![tactic(auto)]
 
-ghost use Rattle.rows.specs.Laws.{RoundsEnd, StripKept, RowsKept, Replays};
+ghost use Rattle.rows.specs.Laws.{
+  RoundsEnd,
+  StripKept,
+  RowsKept,
+  Replays,
+  StripsStay,
+  RoundKeepsStrip,
+  RoundsShorten,
+  BlocksSpell,
+  BlocksLocal,
+  SettlesByRounds,
+  LawfulBetween,
+  PartsAreFragments,
+};
 
 // What a row is made of. Parts are numbers of rows; number 0 stands for the empty strip.
 #[derive(Clone, Copy, PartialEq, Eq, Debug)]
@@ -39,8 +52,21 @@ pub const MAX_CELLS: usize = 65_535;
 
 // The laws of the rounds, which the law of one strip and one number rests on.
 fn laws_of_rounds()
+    // What settling a strip leaves, and what stays when rows are added.
     ensures end { RoundsEnd }
     ensures strip { StripKept }
     ensures rows { RowsKept }
     ensures replay { Replays }
+    ensures stay { StripsStay }
+
+    // What a round does, and how it cuts a string up.
+    ensures keep { RoundKeepsStrip }
+    ensures shorten { RoundsShorten }
+    ensures spell { BlocksSpell }
+    ensures local { BlocksLocal }
+
+    // What stands after any number of rounds.
+    ensures run { SettlesByRounds }
+    ensures between { LawfulBetween }
+    ensures fragments { PartsAreFragments }
 {}

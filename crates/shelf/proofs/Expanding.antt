@@ -9,7 +9,7 @@ use Rattle.rows.specs.Rounds.{settle}
 use Rattle.rows.specs.Strips.{strip, leaf_string}
 use Rattle.rows.proofs.LeafFacts.{LeavesOf, leaves_append, leaves_take, leaves_drop, length_leaves, leaf_string_names, leaves_found}
 use Rattle.recompression.specs.Expansions.{written_out}
-use Rattle.recompression.specs.Settling.{all_rounds}
+use Rattle.recompression.specs.Settlements.{all_rounds}
 use Rattle.shelf.proofs.RowFacts.{kept_length}
 use Rattle.shelf.proofs.Settlings.{settle_from_leaves}
 

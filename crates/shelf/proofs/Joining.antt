@@ -9,7 +9,7 @@ use Rattle.rows.specs.Filing.{row_of}
 use Rattle.rows.specs.Lawful.{Lawful}
 use Rattle.rows.specs.Strips.{strip}
 use Rattle.recompression.specs.Expansions.{written_out}
-use Rattle.recompression.specs.Settling.{all_rounds}
+use Rattle.recompression.specs.Settlements.{all_rounds}
 use Rattle.shelf.specs.declared.refusal.Refusal.{Refusal}
 use Rattle.shelf.specs.declared.refusal.Refusal.TheVariants.{TooLong, WorkAreaTooShort, UnknownNumber, FragmentLeavesStrip}
 use Rattle.shelf.specs.Refusals.{ComesTo, Writes}

@@ -14,8 +14,7 @@ use Rattle.rows.specs.Strips.{strip}
 use Rattle.rows.proofs.NamingFacts.{length_named, file_all_grows}
 use Rattle.recompression.specs.declared.table.settle.Unsettled.{Unsettled}
 use Rattle.recompression.specs.declared.table.settle.Unsettled.TheVariants.{TooLong}
-use Rattle.recompression.specs.Settling as recompression
-use Rattle.recompression.specs.Settling.{all_rounds, settling_by}
+use Rattle.recompression.specs.Settlements.{all_rounds, settlement, settlement_of}
 use Rattle.shelf.specs.declared.refusal.Refusal.{Refusal}
 use Rattle.shelf.specs.declared.refusal.Refusal.TheVariants.{WorkAreaTooShort}
 use Rattle.shelf.specs.Leaves.{LeavesFiled, SettlesAs, SettlesOrUndoes}
@@ -36,15 +35,15 @@ settle_from_leaves old rows codes numbers h =
     ap (λ o. then o (rounds_from (enough_rounds (length codes)) 0)) h ∙ ap (λ n. rounds_from (enough_rounds n) 0 (record { numbers = numbers; rows = rows })) many
 
 module _ (old rows : List Row) (codes numbers : List ℕ) (filed : leaves old codes ≡ Some (record { numbers = numbers; rows = rows })) (short : length numbers ≤ 65535) where
-  by_rounds : recompression.settling rows numbers ≡ settling_by rows (all_rounds rows numbers)
-  by_rounds = cond-false (ltb 65535 (length numbers)) (record { answer = Err TooLong; rows = rows }) (settling_by rows (all_rounds rows numbers)) (le-ltb 65535 (length numbers) short)
+  by_rounds : settlement rows numbers ≡ settlement_of rows (all_rounds rows numbers)
+  by_rounds = cond-false (ltb 65535 (length numbers)) (record { answer = Err TooLong; rows = rows }) (settlement_of rows (all_rounds rows numbers)) (le-ltb 65535 (length numbers) short)
 
   kept : take (length old) rows ≡ old
   kept =
       let grown = file_all_grows 0 (map leaf_block codes) old (record { numbers = numbers; rows = rows }) filed in
       ap (take (length old)) grown.grows ∙ take-append-le (length old) old grown.added (omega arith) ∙ take_all (length old) old (omega arith)
 
-  by_outcome : (o : Option Settled) → all_rounds rows numbers ≡ o → (r : Result ℕ Unsettled) (after : List Row) → r ≡ (settling_by rows o).answer → after ≡ (settling_by rows o).rows → SettlesAs old codes (for_shelf r) after
+  by_outcome : (o : Option Settled) → all_rounds rows numbers ≡ o → (r : Result ℕ Unsettled) (after : List Row) → r ≡ (settlement_of rows o).answer → after ≡ (settlement_of rows o).rows → SettlesAs old codes (for_shelf r) after
   by_outcome None is r after answer left =
       subst (λ x. SettlesAs old codes (for_shelf x) after) (sym answer)
       (refl, settle_from_leaves old rows codes numbers filed ∙ is, ap (take (length old)) left ∙ kept)
@@ -52,7 +51,7 @@ module _ (old rows : List Row) (codes numbers : List ℕ) (filed : leaves old co
       subst (λ x. SettlesAs old codes (for_shelf x) after) (sym answer)
       (s, settle_from_leaves old rows codes numbers filed ∙ is, refl, left)
 
-  pub settled_after : (r : Result ℕ Unsettled) (after : List Row) → r ≡ (recompression.settling rows numbers).answer → after ≡ (recompression.settling rows numbers).rows → SettlesAs old codes (for_shelf r) after
+  pub settled_after : (r : Result ℕ Unsettled) (after : List Row) → r ≡ (settlement rows numbers).answer → after ≡ (settlement rows numbers).rows → SettlesAs old codes (for_shelf r) after
   settled_after r after answer left =
       by_outcome (all_rounds rows numbers) refl r after (answer ∙ ap (λ t. t.answer) by_rounds) (left ∙ ap (λ t. t.rows) by_rounds)
 

@@ -1,14 +1,14 @@
 // A part of a number's strip, written out as the numbers of its leaves.
 ghost use Rattle.std.specs.Prelude.{◌≡◌, ◌+◌, ◌%◌, ◌<◌, ◌≤◌, length};
 ghost use Rattle.recompression.specs.Contents.{rows_in};
-ghost use Rattle.recompression.specs.Expansions.{Asked, Expanded, part_length, written_out};
+ghost use Rattle.recompression.specs.Expansions.{Asked, ExpandsTo, part_length, written_out};
 ghost use Rattle.rows.specs.declared.Shape.TheVariants.{Pair, Repeat};
 ghost use Rattle.rows.specs.Filing.{row_of};
 
 use crate::table::Table;
 use rows::Shape;
 
-// The strip has not all the places asked for.
+// The part asked for goes past the length that the number's row keeps: that of its strip, or 65,535 for a longer one.
 #[derive(Clone, Copy, PartialEq, Eq, Debug)]
 pub struct OutOfStrip;
 
@@ -22,9 +22,9 @@ fn place_in_copy(place: usize, copy_length: usize) -> usize
 
 impl Table {
     // Fills `out` with the leaf numbers of the places from `start` on of a number's strip; `out` is left
-    // alone where the strip has not all of them.
+    // alone where these go past the length that the number's row keeps.
     pub fn expand(&self, number: u16, start: usize, out: &mut [u16]) -> Result<(), OutOfStrip>
-        ensures { Expanded (rows_in self.now) number start out.old result out.new }
+        ensures { ExpandsTo (rows_in self.now) number start out.old result out.new }
     {
         let kept = usize::from(self.length_of(number));
         // By hand, since this crate knows no fragments.
@@ -46,9 +46,9 @@ impl Table {
         }
     }
 
-    // Fills `out` as `expand` does, where the strip is known to have all the places. Only parts below the row are
-    // visited, so that the calls come to leaves. Three functions call each other, and each says the same of `out`: a
-    // struct of number, start and `out` would be taken apart at each call.
+    // Fills `out` as `expand` does, where the row is known to keep a length that has all the places. Only parts
+    // below the row are visited, so that the calls come to leaves. Three functions call each other, and each says
+    // the same of `out`: a struct of number, start and `out` would be taken apart at each call.
     #[cycle(expand_pair_expand_repeat_expand_row)]
     fn expand_row(&self, number: u16, start: usize, out: &mut [u16])
         requires { start + length out.old ≤ (row_of (rows_in self.now) number).length }

@@ -1,6 +1,6 @@
 // How a shape gets its number: the first row of that shape, or a row added after the others.
 ghost use Rattle.std.specs.Prelude.{◌≡◌, take, None};
-ghost use Rattle.recompression.specs.Contents.{Filed, rows_in, number_in, rows_left};
+ghost use Rattle.recompression.specs.Contents.{FilesAs, rows_in, number_in, rows_left};
 ghost use Rattle.rows.specs.Filing.{alike, find, file, numbered, shape_length};
 
 use crate::table::Table;
@@ -12,7 +12,7 @@ impl Table {
     pub fn find(&self, shape: Shape) -> Option<u16>
         ensures { result ≡ find (rows_in self.now) shape }
     {
-        // The check proves that it fits; `try_from` would have an error that never comes.
+        // The checker proves that it fits; `try_from` would have an error that never comes.
         self.slots.first_of(shape).map(|index| index as u16 + 1)
     }
 
@@ -32,7 +32,7 @@ impl Table {
     // A row of that shape put after the others, made in that round, and its number; none where all slots are
     // in use.
     fn add(&mut self, round: u32, shape: Shape) -> Option<u16>
-        ensures { Filed (rows_in self.old) (numbered round (rows_in self.old) shape None) result (rows_in self.new) }
+        ensures { FilesAs (rows_in self.old) (numbered round (rows_in self.old) shape None) result (rows_in self.new) }
     {
         let count = self.slots.count;
         if count >= MAX_ROWS {

@@ -6,16 +6,16 @@ ghost use Rattle.rows.specs.Rounds.{is_left, left_at, pairs};
 use crate::table::rounds::Block;
 use rows::Shape;
 
-// Whether a number is left in one of the 22 turns of even rounds: in the first eleven those whose bit of that
+// Whether a number is left in one of the 22 phases of even rounds: in the first eleven those whose bit of that
 // place is 1, and in the others those whose bit is 0.
-fn left_in_turn(turn: u32, number: u16) -> bool
-    requires { turn < 22 }
-    ensures { result ≡ left_at turn number }
+fn left_in_phase(phase: u32, number: u16) -> bool
+    requires { phase < 22 }
+    ensures { result ≡ left_at phase number }
 {
-    if turn < 11 {
-        (number >> turn) % 2 == 1
+    if phase < 11 {
+        (number >> phase) % 2 == 1
     } else {
-        (number >> (turn - 11)) % 2 == 0
+        (number >> (phase - 11)) % 2 == 0
     }
 }
 
@@ -24,7 +24,7 @@ fn left_in_turn(turn: u32, number: u16) -> bool
 fn is_left(round: u32, number: u16) -> bool
     ensures { result ≡ is_left round number }
 {
-    left_in_turn((round / 2).saturating_sub(1) % 22, number)
+    left_in_phase((round / 2).saturating_sub(1) % 22, number)
 }
 
 // The number with which the first of the numbers makes a pair in that round, if it does.

@@ -1,7 +1,7 @@
 // One round, run in place: the string is cut into blocks from left to right, and each block that is a shape gets
 // its number.
 ghost use Rattle.std.specs.Prelude.{◌≡◌, ◌<◌, ◌≤◌, ◌∷◌, length};
-ghost use Rattle.recompression.specs.Contents.{Filed, rows_in};
+ghost use Rattle.recompression.specs.Contents.{FilesAs, rows_in};
 ghost use Rattle.recompression.specs.InPlace.{IsFirst, Ran, block_of, file_block};
 ghost use Rattle.rows.specs.Rounds.{blocks};
 
@@ -34,7 +34,7 @@ fn first_block(round: u32, first: u16, rest: &[u16]) -> (Block, usize)
 impl Table {
     // The number of a block: a number is its own, and a shape has that of its row.
     fn file_block(&mut self, round: u32, block: Block) -> Option<u16>
-        ensures { Filed (rows_in self.old) (file_block round (rows_in self.old) (block_of block)) result (rows_in self.new) }
+        ensures { FilesAs (rows_in self.old) (file_block round (rows_in self.old) (block_of block)) result (rows_in self.new) }
     {
         match block {
             Block::One(number) => Some(number),

@@ -3,7 +3,7 @@
 ghost use Rattle.std.specs.Prelude.{◌≡◌, ◌≤◌, length, replicate};
 ghost use Rattle.recompression.specs.Contents.{rows_in};
 ghost use Rattle.rows.specs.Rounds.{enough_rounds};
-ghost use Rattle.recompression.specs.Settling.{RunThrough, all_rounds, settling, settling_by};
+ghost use Rattle.recompression.specs.Settlements.{RunThrough, all_rounds, settlement, settlement_of};
 
 use crate::table::Table;
 use rows::MAX_CELLS;
@@ -20,8 +20,8 @@ pub enum Unsettled {
     Full,
 }
 
-// So many rounds are enough for a string of that many numbers. The check proves that the cast fits; `try_from` would
-// have an error that never comes.
+// So many rounds are enough for a string of that many numbers. The checker proves that the cast fits; `try_from`
+// would have an error that never comes.
 fn rounds_for(size: usize) -> u32
     requires { size ≤ 65535 }
     ensures { result ≡ enough_rounds size }
@@ -48,8 +48,8 @@ impl Table {
     // Runs the rounds, and takes the rows that they added off again where the table is full.
     fn run_or_undo(&mut self, numbers: &mut [u16]) -> Result<u16, Unsettled>
         requires { length numbers.old ≤ 65535 }
-        ensures answer { result ≡ (settling_by (rows_in self.old) (all_rounds (rows_in self.old) numbers.old)).answer }
-        ensures rows { rows_in self.new ≡ (settling_by (rows_in self.old) (all_rounds (rows_in self.old) numbers.old)).rows }
+        ensures answer { result ≡ (settlement_of (rows_in self.old) (all_rounds (rows_in self.old) numbers.old)).answer }
+        ensures rows { rows_in self.new ≡ (settlement_of (rows_in self.old) (all_rounds (rows_in self.old) numbers.old)).rows }
     {
         let count = self.count();
         let number = self.run_rounds(numbers);
@@ -63,8 +63,8 @@ impl Table {
     // zeros afterwards; where it is refused the rows are as they were. The length is tested once, here: a struct over
     // the slice would hold the `&mut` that `fill` needs back.
     pub fn settle(&mut self, numbers: &mut [u16]) -> Result<u16, Unsettled>
-        ensures answer { result ≡ (settling (rows_in self.old) numbers.old).answer }
-        ensures rows { rows_in self.new ≡ (settling (rows_in self.old) numbers.old).rows }
+        ensures answer { result ≡ (settlement (rows_in self.old) numbers.old).answer }
+        ensures rows { rows_in self.new ≡ (settlement (rows_in self.old) numbers.old).rows }
         ensures cleared { numbers.new ≡ replicate (length numbers.old) 0 }
     {
         let answer = if numbers.len() > MAX_CELLS {

@@ -25,7 +25,7 @@ pub(super) fn first_stretch(part: u16, rest: &[u16]) -> (Block, usize)
     if times < 2 {
         return (Block::One(part), times);
     }
-    // The check proves that the cast fits; `try_from` would have an error that never comes.
+    // The checker proves that the cast fits; `try_from` would have an error that never comes.
     let shape = Shape::Repeat {
         part,
         times: times as u16,

@@ -1,8 +1,12 @@
 -- The laws of the rounds, from the theory. Assumes nothing.
 use Rattle.std.proofs.Common.{refl}
-use Rattle.rows.specs.Rounds.{number_left}
-use Rattle.rows.proofs.OneNumber.{settled_stands, stands_append}
+use Rattle.rows.proofs.NamingFacts.{settle_replay, settles_by_rounds}
+use Rattle.rows.proofs.OneNumber.{settled_stands}
+use Rattle.rows.proofs.Parsing.{spelled_blocks, blocks_part}
+use Rattle.rows.proofs.RoundFacts.{rounds_shorten}
+use Rattle.rows.proofs.RoundLaws.{round_keeps_strip, lawful_between, part_is_fragment}
 use Rattle.rows.proofs.SettleFacts.{settles}
+use Rattle.rows.proofs.StripFacts.{strip_append}
 use Rattle.rows.proofs.laws_of_rounds.Goals as goal
 
 pub returns : goal.returns
@@ -11,7 +15,14 @@ returns c =
       end = λ rows codes s law short is. (settles rows codes s law short is).left;
       strip = λ rows codes s law short is. (settled_stands rows codes s law short is).writes;
       rows = λ rows codes s law short is. let done = settles rows codes s law short is in (done.lawful, done.added, done.grows);
-      replay = λ rows codes s law short is more.
-          let stands = stands_append s.rows more codes (number_left s.numbers) (settled_stands rows codes s law short is) in
-          record { again = _; settles = stands.comes; adds_none = refl; comes = stands.is };
+      replay = λ rows codes s more is.
+          record { again = _; settles = settle_replay rows codes s more is; adds_none = refl; comes = refl; same_rounds = refl };
+      stay = strip_append;
+      keep = round_keeps_strip;
+      shorten = λ k f s few known long is. rounds_shorten k f.rows f.numbers s few known long is;
+      spell = spelled_blocks;
+      local = blocks_part;
+      run = settles_by_rounds;
+      between = lawful_between;
+      fragments = part_is_fragment;
     }

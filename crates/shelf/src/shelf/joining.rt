@@ -3,7 +3,7 @@ ghost use Rattle.std.specs.Prelude.{◌≡◌, ◌+◌, ◌≤◌, ◌++◌, len
 ghost use Rattle.book.specs.Calls.{settling, joined_up};
 ghost use Rattle.recompression.specs.Contents.{rows_in};
 ghost use Rattle.recompression.specs.Expansions.{written_out};
-ghost use Rattle.recompression.specs.Settling.{all_rounds};
+ghost use Rattle.recompression.specs.Settlements.{all_rounds};
 ghost use Rattle.rows.specs.Filing.{row_of};
 ghost use Rattle.rows.specs.Strips.{strip};
 ghost use Rattle.shelf.specs.Contents.{kind_of, rows_on};

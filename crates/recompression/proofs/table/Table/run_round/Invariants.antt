@@ -1,4 +1,4 @@
--- What the loop of `run_round` keeps from turn to turn, and what falls. Assumes nothing.
+-- What the loop of `run_round` keeps from block to block, and what falls. Assumes nothing.
 use Rattle.std.proofs.Common.{◌-◌, length}
 use Rattle.rows.specs.Rounds.{blocks}
 use Rattle.recompression.specs.Tables.{in_use}

@@ -2,7 +2,7 @@
 use Rattle.std.proofs.Common.{◌≡◌, ◌+◌, ◌-◌, ◌*◌, ◌++◌, length, get_or, take, drop, Some, inl, inr, sym, subst, ◌∙◌, rules, arith}
 use Rattle.std.proofs.lemmas.Option.{gets}
 use Rattle.std.proofs.lemmas.List.{length-take-le}
-use Rattle.recompression.specs.Settling.{RunThrough}
+use Rattle.recompression.specs.Settlements.{RunThrough}
 use Rattle.recompression.specs.Tables.{in_use}
 use Rattle.recompression.proofs.SettleFacts.{Running, running_more, running_full, running_done}
 use Rattle.recompression.proofs.table.Table.run_rounds.Goals as goal

@@ -1,4 +1,4 @@
--- What the loop of `run_rounds` keeps from turn to turn. Assumes nothing.
+-- What the loop of `run_rounds` keeps from round to round. Assumes nothing.
 use Rattle.std.proofs.Common.{◌-◌, ◌*◌, length}
 use Rattle.recompression.specs.Tables.{in_use}
 use Rattle.recompression.proofs.SettleFacts.{Running}

@@ -10,19 +10,19 @@ abbrev pub all_rounds : List Row → List ℕ → Option Settled
 all_rounds rows numbers = rounds_from (enough_rounds (length numbers)) 0 (record { numbers = numbers; rows = rows })
 
 -- an answer, and the rows that are left
-pub record Settling : Type 0 where
+pub record Settlement : Type 0 where
   pub answer : Result ℕ Unsettled
   pub rows : List Row
 
-abbrev pub settling_by : List Row → Option Settled → Settling
-settling_by rows None = record { answer = Err Full; rows = rows }
-settling_by rows (Some s) = record { answer = Ok (number_left s.numbers); rows = s.rows }
+abbrev pub settlement_of : List Row → Option Settled → Settlement
+settlement_of rows None = record { answer = Err Full; rows = rows }
+settlement_of rows (Some s) = record { answer = Ok (number_left s.numbers); rows = s.rows }
 
 -- a string of more than 65,535 numbers is refused, and so is one that would need a row 1,025: the rows are
 -- then as they were. Any other string of known numbers comes to one number, or to 0 when it is empty; of a
 -- string with other numbers, the first that the rounds leave is answered
-abbrev pub settling : List Row → List ℕ → Settling
-settling rows numbers = cond (nat_lt 65535 (length numbers)) (record { answer = Err TooLong; rows = rows }) (settling_by rows (all_rounds rows numbers))
+abbrev pub settlement : List Row → List ℕ → Settlement
+settlement rows numbers = cond (nat_lt 65535 (length numbers)) (record { answer = Err TooLong; rows = rows }) (settlement_of rows (all_rounds rows numbers))
 
 -- what the rounds leave before a refusal is undone: rows that begin with those of before
 abbrev pub RunThrough : List Row → List ℕ → Option ℕ → List Row → Type 0
