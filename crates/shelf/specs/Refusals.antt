@@ -1,6 +1,5 @@
 -- Refusals by number, and the answers that results stand for. Assumes nothing.
-use Rattle.std.specs.Prelude.{◌≡◌, ℕ, ◌<◌, ◌≤◌, Bool, List, ◌++◌, map, length, Some, Ok, Err, Option, codes as ascii, decimal, Result}
-use Rattle.std.specs.List.{AllZip}
+use Rattle.std.specs.Prelude.{◌≡◌, ℕ, ◌<◌, ◌≤◌, Bool, List, ◌++◌, length, Some, Ok, Err, Option, codes as ascii, decimal, Result}
 use Rattle.book.specs.Calls.{Answer, answered, refused, refused_at, Turn}
 use Rattle.book.specs.Laws.{OfKind}
 use Rattle.cells.specs.Printing.{first_unprintable}
