@@ -4,6 +4,7 @@ ghost use Rattle.std.specs.Prelude.{◌≡◌, [], ◌∷◌, IfOk, OnOk};
 ghost use Rattle.job.specs.Commands.{command_of};
 ghost use Rattle.job.specs.Runs.{nothing_yet, fits as fits_on};
 ghost use Rattle.job.specs.Lines.{told_in};
+ghost use Rattle.shelf.specs.Contents.{kind_of};
 
 use crate::command::Command;
 use crate::line::Line;
