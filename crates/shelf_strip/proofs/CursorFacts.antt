@@ -17,7 +17,7 @@ use Rattle.rows.proofs.LawfulFacts.{row_lawful}
 use Rattle.keepers.specs.declared.side.Side.{Side}
 use Rattle.shelf_strip.specs.declared.cursor.Cursor.{Cursor}
 use Rattle.shelf_strip.specs.Sides.{seen, first_of, second_of}
-use Rattle.shelf_strip.specs.Cursors.{in_pair, in_copies, code_under, Stands, GoesOn}
+use Rattle.shelf_strip.specs.Cursors.{in_pair, in_copies, code_under, Stands, Continues}
 use Rattle.shelf_strip.proofs.LengthFacts.{known_by_code}
 use Rattle.shelf_strip.proofs.SeenFacts.{length_seen, seen_shape, seen_of_row, pair_below, repeat_below}
 
@@ -73,7 +73,7 @@ module _ (side : Side) (rows : List Row) (law : Lawful rows) (c : Cursor) (stand
       total : length (seen side rows c.number) ≡ f + s
       total = ap length (seen_as (Pair left right) is) ∙ length-append (seen side rows (first_of side left right)) (seen side rows (second_of side left right)) ∙ (omega arith)
 
-      goes_first : c.place < f → GoesOn side rows c (record { number = first_of side left right; place = c.place; reach = f - c.place })
+      goes_first : c.place < f → Continues side rows c (record { number = first_of side left right; place = c.place; reach = f - c.place })
       goes_first front =
           let first = seen side rows (first_of side left right) in
           let second = seen side rows (second_of side left right) in
@@ -89,7 +89,7 @@ module _ (side : Side) (rows : List Row) (law : Lawful rows) (c : Cursor) (stand
                 ∙ sym (under_plain side rows c k (omega arith) ∙ ap (λ xs. get_or xs (c.place + k) 0) (seen_as (Pair left right) is) ∙ get_or_append_left first second 0 (c.place + k) (omega arith));
           }
 
-      goes_second : f ≤ c.place → GoesOn side rows c (record { number = second_of side left right; place = c.place - f; reach = s - (c.place - f) })
+      goes_second : f ≤ c.place → Continues side rows c (record { number = second_of side left right; place = c.place - f; reach = s - (c.place - f) })
       goes_second back =
           let first = seen side rows (first_of side left right) in
           let second = seen side rows (second_of side left right) in
@@ -108,13 +108,13 @@ module _ (side : Side) (rows : List Row) (law : Lawful rows) (c : Cursor) (stand
                 ∙ get_or-append_right first second f (c.place + k) 0 (sym f_is) (omega arith) ∙ ap (λ p. get_or second p 0) place);
           }
 
-      pub goes_in_pair : GoesOn side rows c (in_pair (first_of side left right) f (second_of side left right) s c.place)
+      pub goes_in_pair : Continues side rows c (in_pair (first_of side left right) f (second_of side left right) s c.place)
       goes_in_pair =
           let one : Cursor = record { number = first_of side left right; place = c.place; reach = f - c.place } in
           let other : Cursor = record { number = second_of side left right; place = c.place - f; reach = s - (c.place - f) } in
           elim (cases_lt c.place f) [
-            | inl front ↦ subst (GoesOn side rows c) (sym (cond-true (ltb c.place f) one other (lt-ltb c.place f front))) (goes_first front)
-            | inr back ↦ subst (GoesOn side rows c) (sym (cond-false (ltb c.place f) one other (le-ltb c.place f back))) (goes_second back)
+            | inl front ↦ subst (Continues side rows c) (sym (cond-true (ltb c.place f) one other (lt-ltb c.place f front))) (goes_first front)
+            | inr back ↦ subst (Continues side rows c) (sym (cond-false (ltb c.place f) one other (le-ltb c.place f back))) (goes_second back)
           ]
 
   module _ (part count : ℕ) (is : (row_of rows c.number).shape ≡ Repeat part count) where
@@ -136,7 +136,7 @@ module _ (side : Side) (rows : List Row) (law : Lawful rows) (c : Cursor) (stand
     pub copy_some : 0 < length (strip rows part)
     copy_some = let some = part_some in let l = length_seen side rows part in omega arith
 
-    pub goes_in_copies : (f : ℕ) → f ≡ length (seen side rows part) → (w : ℕ) → w ≡ length (seen side rows c.number) → GoesOn side rows c (in_copies part f w c.place)
+    pub goes_in_copies : (f : ℕ) → f ≡ length (seen side rows part) → (w : ℕ) → w ≡ length (seen side rows c.number) → Continues side rows c (in_copies part f w c.place)
     unfolding code_under
     goes_in_copies f f_is w w_is =
         let xs = seen side rows part in
