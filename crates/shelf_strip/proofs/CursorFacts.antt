@@ -1,5 +1,5 @@
 -- A cursor that goes down into a part goes on as before. Assumes nothing.
-use Rattle.std.proofs.Common.{◌≡◌, ℕ, suc, ◌+◌, ◌-◌, ◌*◌, ◌/◌, ◌%◌, ◌<◌, ◌≤◌, true, ltb, List, length, get_or, Some, None, sym, ap, ◌∙◌, subst, inl, inr, mod-lt, mod-eq_of_lt, suc-mul, mul_comm, arith, length-append}
+use Rattle.std.proofs.Common.{◌≡◌, ℕ, suc, ◌+◌, ◌-◌, ◌*◌, ◌/◌, ◌%◌, ◌<◌, ◌≤◌, true, ltb, List, length, get_or, Some, None, sym, ap, ap₂, ◌∙◌, subst, inl, inr, mod-lt, mod-eq_of_lt, suc-mul, mul_comm, arith, length-append}
 use native.Mathlib.Nat.{mod-add-mod}
 use Rattle.std.proofs.lemmas.Nat.{div-add-mod', mul-le}
 use Rattle.std.proofs.lemmas.List.{get_or_append_left, get_or-append_right}
@@ -64,14 +64,15 @@ module _ (side : Side) (rows : List Row) (law : Lawful rows) (c : Cursor) (stand
   parts_fall shape is = ap (parts_below c.number) (sym is) ∙ (row_lawful rows law c.number number_known.0 number_known.1).parts
 
   module _ (left right : ℕ) (is : (row_of rows c.number).shape ≡ Pair left right) where
+    parts_add : length (seen side rows c.number) ≡ length (seen side rows (first_of side left right)) + length (seen side rows (second_of side left right))
+    parts_add = ap length (seen_as (Pair left right) is) ∙ length-append (seen side rows (first_of side left right)) (seen side rows (second_of side left right))
+
     pub pair_lengths : length (seen side rows c.number) ≡ length (strip rows (first_of side left right)) + length (strip rows (second_of side left right))
-    pair_lengths =
-        ap length (seen_as (Pair left right) is) ∙ length-append (seen side rows (first_of side left right)) (seen side rows (second_of side left right))
-        ∙ (let f = length_seen side rows (first_of side left right) in let s = length_seen side rows (second_of side left right) in omega arith)
+    pair_lengths = parts_add ∙ ap₂ (λ f s. f + s) (length_seen side rows (first_of side left right)) (length_seen side rows (second_of side left right))
 
     module _ (f : ℕ) (f_is : f ≡ length (seen side rows (first_of side left right))) (s : ℕ) (s_is : s ≡ length (seen side rows (second_of side left right))) where
       total : length (seen side rows c.number) ≡ f + s
-      total = ap length (seen_as (Pair left right) is) ∙ length-append (seen side rows (first_of side left right)) (seen side rows (second_of side left right)) ∙ (omega arith)
+      total = parts_add ∙ omega arith
 
       goes_first : c.place < f → Continues side rows c (record { number = first_of side left right; place = c.place; reach = f - c.place })
       goes_first front =
