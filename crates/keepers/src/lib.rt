@@ -29,9 +29,6 @@ pub trait Keeper {
     // The one list of codes that the keeper stands for.
     ghost codes: { Self → List ℕ };
 
-    // The law of a keeper: that list has at most `MAX_CODES` codes.
-    ghost short: { AllShort codes };
-
     // How many codes there are.
     fn len(&self) -> usize
         ensures { result ≡ length (codes self.now) };
@@ -47,7 +44,10 @@ pub trait Keeper {
         ensures value { result ≡ extension_of side (codes self.now) i j }
         ensures greatest { GreatestOn side (codes self.now) i j result };
 
-    // The same of either side by its own name, since both are promised by name: the codes that agree from `i` and
+    // The law of a keeper: the list that it stands for has at most `MAX_CODES` codes.
+    ghost short: { AllShort codes };
+
+    // The extension on either side by its own name, since both are promised by name: the codes that agree from `i` and
     // from `j` on, ..
     final fn ahead(&self, i: usize, j: usize) -> Option<usize>
         ensures value { result ≡ ahead_of (codes self.now) i j }

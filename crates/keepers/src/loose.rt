@@ -14,8 +14,10 @@ pub struct LooseStrip<'a> {
 }
 
 impl<'a> LooseStrip<'a> {
+    ghost use Rattle.keepers.specs.LooseStrip.{kept_codes};
+
     pub fn new(codes: &'a [u32]) -> Self
-        ensures { result.kept.now ≡ take most_codes codes.now }
+        ensures { kept_codes result ≡ take most_codes codes.now }
     {
         LooseStrip {
             kept: first_codes(codes, MAX_CODES),
@@ -56,9 +58,11 @@ fn agreeing_behind(left: &[u32], right: &[u32]) -> usize
 }
 
 impl Keeper for LooseStrip<'_> {
-    ghost codes = { λ strip. strip.kept.now };
+    ghost use Rattle.keepers.specs.LooseStrip.{kept_codes, kept_short};
 
-    ghost short = { λ strip. strip.few };
+    ghost codes = { kept_codes };
+
+    ghost short = { kept_short };
 
     fn len(&self) -> usize {
         self.kept.len()

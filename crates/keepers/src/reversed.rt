@@ -1,8 +1,8 @@
 // A reversed layer: what another keeper stands for, from its end to its start.
 
 ghost use Rattle.std.specs.Prelude.{reverse};
+ghost use Rattle.std.proofs.lemmas.List.{length-reverse};
 ghost use Rattle.keepers.specs.Layers.{ReversedAnswers};
-ghost use Rattle.keepers.specs.Shortness.{short_reverse};
 
 use crate::{Keeper, Side};
 
@@ -24,7 +24,7 @@ impl<K: Keeper> Reversed<K> {
 impl<K: Keeper> Keeper for Reversed<K> {
     ghost codes = { λ layer. reverse (K.Keeper.codes layer.below) };
 
-    ghost short = { λ layer. short_reverse (K.Keeper.codes layer.below) (K.Keeper.short layer.below) };
+    ghost short = { λ layer. Prim.simp length-reverse (K.Keeper.short layer.below) };
 
     fn len(&self) -> usize {
         self.count()

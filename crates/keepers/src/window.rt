@@ -1,9 +1,10 @@
 // A window: a part of what another keeper stands for.
 
 ghost use Rattle.std.specs.Prelude.{◌≡◌};
+ghost use Rattle.std.proofs.Common.{arith};
 ghost use Rattle.periodicity.specs.Fragments.{part};
+ghost use Rattle.periodicity.proofs.Agreements.{length_window};
 ghost use Rattle.keepers.specs.Layers.{capped, WindowAnswers};
-ghost use Rattle.keepers.specs.Shortness.{short_window};
 
 use crate::{Keeper, Side};
 use periodicity::Fragment;
@@ -42,7 +43,7 @@ impl<K: Keeper> Window<K> {
 impl<K: Keeper> Keeper for Window<K> {
     ghost codes = { λ window. part (K.Keeper.codes window.below) window.part.start window.part.length };
 
-    ghost short = { λ window. short_window (K.Keeper.codes window.below) window.part.start window.part.length (K.Keeper.short window.below) };
+    ghost short = { λ window. Prim.omega (arith, length_window, K.Keeper.short window.below) };
 
     fn len(&self) -> usize {
         self.shown().length

@@ -1,5 +1,5 @@
 -- A cursor that goes down into a part goes on as before. Assumes nothing.
-use Rattle.std.proofs.Common.{◌≡◌, ℕ, suc, ◌+◌, ◌-◌, ◌*◌, ◌/◌, ◌%◌, ◌<◌, ◌≤◌, true, ltb, List, length, get_or, Some, None, sym, ap, ◌∙◌, subst, inl, inr, mod-lt, mod-eq_of_lt, suc-mul, mul_comm, arith, length-append}
+use Rattle.std.proofs.Common.{◌≡◌, ℕ, suc, ◌+◌, ◌-◌, ◌*◌, ◌/◌, ◌%◌, ◌<◌, ◌≤◌, true, ltb, List, length, get_or, Some, None, sym, ap, ap₂, ◌∙◌, subst, inl, inr, mod-lt, mod-eq_of_lt, suc-mul, mul_comm, arith, length-append}
 use native.Mathlib.Nat.{mod-add-mod}
 use Rattle.std.proofs.lemmas.Nat.{div-add-mod', mul-le}
 use Rattle.std.proofs.lemmas.List.{get_or_append_left, get_or-append_right}
@@ -17,7 +17,7 @@ use Rattle.rows.proofs.LawfulFacts.{row_lawful}
 use Rattle.keepers.specs.declared.side.Side.{Side}
 use Rattle.shelf_strip.specs.declared.cursor.Cursor.{Cursor}
 use Rattle.shelf_strip.specs.Sides.{seen, first_of, second_of}
-use Rattle.shelf_strip.specs.Cursors.{in_pair, in_copies, code_under, Stands, GoesOn}
+use Rattle.shelf_strip.specs.Cursors.{in_pair, in_copies, code_under, Stands, Continues}
 use Rattle.shelf_strip.proofs.LengthFacts.{known_by_code}
 use Rattle.shelf_strip.proofs.SeenFacts.{length_seen, seen_shape, seen_of_row, pair_below, repeat_below}
 
@@ -64,16 +64,17 @@ module _ (side : Side) (rows : List Row) (law : Lawful rows) (c : Cursor) (stand
   parts_fall shape is = ap (parts_below c.number) (sym is) ∙ (row_lawful rows law c.number number_known.0 number_known.1).parts
 
   module _ (left right : ℕ) (is : (row_of rows c.number).shape ≡ Pair left right) where
+    parts_add : length (seen side rows c.number) ≡ length (seen side rows (first_of side left right)) + length (seen side rows (second_of side left right))
+    parts_add = ap length (seen_as (Pair left right) is) ∙ length-append (seen side rows (first_of side left right)) (seen side rows (second_of side left right))
+
     pub pair_lengths : length (seen side rows c.number) ≡ length (strip rows (first_of side left right)) + length (strip rows (second_of side left right))
-    pair_lengths =
-        ap length (seen_as (Pair left right) is) ∙ length-append (seen side rows (first_of side left right)) (seen side rows (second_of side left right))
-        ∙ (let f = length_seen side rows (first_of side left right) in let s = length_seen side rows (second_of side left right) in omega arith)
+    pair_lengths = parts_add ∙ ap₂ (λ f s. f + s) (length_seen side rows (first_of side left right)) (length_seen side rows (second_of side left right))
 
     module _ (f : ℕ) (f_is : f ≡ length (seen side rows (first_of side left right))) (s : ℕ) (s_is : s ≡ length (seen side rows (second_of side left right))) where
       total : length (seen side rows c.number) ≡ f + s
-      total = ap length (seen_as (Pair left right) is) ∙ length-append (seen side rows (first_of side left right)) (seen side rows (second_of side left right)) ∙ (omega arith)
+      total = parts_add ∙ omega arith
 
-      goes_first : c.place < f → GoesOn side rows c (record { number = first_of side left right; place = c.place; reach = f - c.place })
+      goes_first : c.place < f → Continues side rows c (record { number = first_of side left right; place = c.place; reach = f - c.place })
       goes_first front =
           let first = seen side rows (first_of side left right) in
           let second = seen side rows (second_of side left right) in
@@ -89,7 +90,7 @@ module _ (side : Side) (rows : List Row) (law : Lawful rows) (c : Cursor) (stand
                 ∙ sym (under_plain side rows c k (omega arith) ∙ ap (λ xs. get_or xs (c.place + k) 0) (seen_as (Pair left right) is) ∙ get_or_append_left first second 0 (c.place + k) (omega arith));
           }
 
-      goes_second : f ≤ c.place → GoesOn side rows c (record { number = second_of side left right; place = c.place - f; reach = s - (c.place - f) })
+      goes_second : f ≤ c.place → Continues side rows c (record { number = second_of side left right; place = c.place - f; reach = s - (c.place - f) })
       goes_second back =
           let first = seen side rows (first_of side left right) in
           let second = seen side rows (second_of side left right) in
@@ -108,13 +109,13 @@ module _ (side : Side) (rows : List Row) (law : Lawful rows) (c : Cursor) (stand
                 ∙ get_or-append_right first second f (c.place + k) 0 (sym f_is) (omega arith) ∙ ap (λ p. get_or second p 0) place);
           }
 
-      pub goes_in_pair : GoesOn side rows c (in_pair (first_of side left right) f (second_of side left right) s c.place)
+      pub goes_in_pair : Continues side rows c (in_pair (first_of side left right) f (second_of side left right) s c.place)
       goes_in_pair =
           let one : Cursor = record { number = first_of side left right; place = c.place; reach = f - c.place } in
           let other : Cursor = record { number = second_of side left right; place = c.place - f; reach = s - (c.place - f) } in
           elim (cases_lt c.place f) [
-            | inl front ↦ subst (GoesOn side rows c) (sym (cond-true (ltb c.place f) one other (lt-ltb c.place f front))) (goes_first front)
-            | inr back ↦ subst (GoesOn side rows c) (sym (cond-false (ltb c.place f) one other (le-ltb c.place f back))) (goes_second back)
+            | inl front ↦ subst (Continues side rows c) (sym (cond-true (ltb c.place f) one other (lt-ltb c.place f front))) (goes_first front)
+            | inr back ↦ subst (Continues side rows c) (sym (cond-false (ltb c.place f) one other (le-ltb c.place f back))) (goes_second back)
           ]
 
   module _ (part count : ℕ) (is : (row_of rows c.number).shape ≡ Repeat part count) where
@@ -136,7 +137,7 @@ module _ (side : Side) (rows : List Row) (law : Lawful rows) (c : Cursor) (stand
     pub copy_some : 0 < length (strip rows part)
     copy_some = let some = part_some in let l = length_seen side rows part in omega arith
 
-    pub goes_in_copies : (f : ℕ) → f ≡ length (seen side rows part) → (w : ℕ) → w ≡ length (seen side rows c.number) → GoesOn side rows c (in_copies part f w c.place)
+    pub goes_in_copies : (f : ℕ) → f ≡ length (seen side rows part) → (w : ℕ) → w ≡ length (seen side rows c.number) → Continues side rows c (in_copies part f w c.place)
     unfolding code_under
     goes_in_copies f f_is w w_is =
         let xs = seen side rows part in

@@ -36,7 +36,7 @@ pub record Stands (side : Side) (rows : List Row) (c : Cursor) : Type 0 where
   pub reaches : length (seen side rows c.number) ≤ c.place + c.reach
 
 -- a cursor d of a smaller number goes on as c does, no further than c reaches
-pub record GoesOn (side : Side) (rows : List Row) (c d : Cursor) : Type 0 where
+pub record Continues (side : Side) (rows : List Row) (c d : Cursor) : Type 0 where
   pub stands : Stands side rows d
   pub falls : d.number < c.number
   pub short : d.reach ≤ c.reach
@@ -45,7 +45,7 @@ pub record GoesOn (side : Side) (rows : List Row) (c d : Cursor) : Type 0 where
 -- a cursor goes on in a part of its row; one on a leaf does not
 abbrev pub Descends : Side → List Row → Cursor → Option Cursor → Type 0
 Descends side rows c None = (code : ℕ) × ((row_of rows c.number).shape ≡ Leaf code)
-Descends side rows c (Some d) = GoesOn side rows c d
+Descends side rows c (Some d) = Continues side rows c d
 
 -- n codes from two cursors on agree, none only where the first ones differ
 pub record Steps (side : Side) (rows : List Row) (a b : Cursor) (n : ℕ) : Type 0 where

@@ -20,21 +20,25 @@ pub struct ShelfStrip<'a> {
 }
 
 impl<'a> ShelfStrip<'a> {
+    ghost use Rattle.shelf_strip.specs.ShelfStrip.{number_of, shelf_of, strip_of};
+
     #[tactic(auto, using(rows::proofs::LawfulFacts::strip_short))]
     pub fn new(shelf: &'a Shelf, number: u16) -> Self
-        ensures shelf { result.shelf.now ≡ shelf.now }
-        ensures number { result.number ≡ number }
-        ensures list { strip (rows_on result.shelf.now) result.number ≡ strip (rows_on shelf.now) number }
+        ensures shelf { shelf_of result ≡ shelf.now }
+        ensures number { number_of result ≡ number }
+        ensures list { strip_of result ≡ strip (rows_on shelf.now) number }
     {
         ShelfStrip { shelf, number }
     }
 }
 
 impl ShelfStrip<'_> {
+    ghost use Rattle.shelf_strip.specs.ShelfStrip.{strip_of};
+
     // How many codes agree from two places on, counted from one side.
     fn agreeing(&self, side: Side, i: usize, j: usize) -> usize
-        requires first { i ≤ length (strip (rows_on self.now.shelf.now) self.now.number) }
-        requires second { j ≤ length (strip (rows_on self.now.shelf.now) self.now.number) }
+        requires first { i ≤ length (strip_of self.now) }
+        requires second { j ≤ length (strip_of self.now) }
         ensures { result ≡ common (drop i (seen side (rows_on self.now.shelf.now) self.now.number)) (drop j (seen side (rows_on self.now.shelf.now) self.now.number)) }
     {
         let len = self.len();
@@ -59,9 +63,11 @@ impl ShelfStrip<'_> {
 }
 
 impl Keeper for ShelfStrip<'_> {
-    ghost codes = { λ kept. strip (rows_on kept.shelf.now) kept.number };
+    ghost use Rattle.shelf_strip.specs.ShelfStrip.{strip_of, strip_of_short};
 
-    ghost short = { λ kept. kept.few };
+    ghost codes = { strip_of };
+
+    ghost short = { strip_of_short };
 
     fn len(&self) -> usize {
         strip_length(self.shelf, self.number)

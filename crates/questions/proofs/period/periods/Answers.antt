@@ -20,7 +20,7 @@ returns-clause-named g c =
     let unchecked : periods_check xs part.fragment (length old) ≡ None = grind (arith, nat_tests, part.lies, part.some) in
     let long = length_part xs part.fragment.start part.fragment.length part.lies in
     let first : take 17 after ≡ written_records w = ap (take 17) c.write_records.ensures ∙ take_at (written_records w) (drop 17 old) 17 (all_written w).1 in
-    rw (← same.0, ← same.1) (unchecked, subst (λ rs. PeriodsNamed w rs) (sym first) (written_named w (omega (arith, part.some)) (omega (arith, g.K.Keeper.short part.keeper.now))))
+    rw (← same.0, ← same.1) (unchecked, subst (λ rs. PeriodsNamed w rs) (sym first) (written_named w (omega (arith, part.some)) (omega (arith, g.met.K.Keeper.short part.keeper.now))))
 
 pub returns-clause-law : goal.returns-clause-law
 returns-clause-law g c = let named = returns-clause-named g c in (named.0, named.1.once)
