@@ -7,8 +7,8 @@ use Rattle.periodicity.specs.declared.Progression.{Progression}
 use Rattle.periodicity.specs.Agreement.{same}
 use Rattle.periodicity.specs.Progressions.{named, Names}
 
--- two lists overlap in n codes: both have so many, and each of the last n of the second is that of the first
--- n of the first
+-- two lists overlap in n codes: both have so many, and the last n of the second are, one by one, the first n
+-- of the first
 pub record Overlap (first second : List ℕ) (n : ℕ) : Type 0 where
   pub in_first : n ≤ length first
   pub in_second : n ≤ length second

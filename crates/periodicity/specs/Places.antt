@@ -8,7 +8,8 @@ use Rattle.periodicity.specs.Agreement.{same}
 use Rattle.periodicity.specs.Fragments.{part, cut}
 use Rattle.periodicity.specs.Progressions.{named, Names}
 
--- the pattern stands at place i of the field: the field has it whole, and each of its codes is the strip's there
+-- the pattern stands at place i of the field: the field has room for it there, and the strip's codes from i on
+-- are, one by one, the pattern's
 pub record PlaceIn (xs : List ℕ) (pattern field : Fragment) (i : ℕ) : Type 0 where
   pub begins : field.start ≤ i
   pub ends : i + pattern.length ≤ field.start + field.length
