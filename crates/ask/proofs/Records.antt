@@ -7,14 +7,14 @@ use Rattle.std.proofs.lemmas.List.{at_drop_more, at_drop_all}
 use Rattle.std.proofs.lemmas.Bool.{cond-true, cond-false, eq-eqb, ne_eqb}
 use Rattle.periodicity.specs.declared.Progression.{Progression}
 use Rattle.periodicity.specs.Progressions.{triple, triple_text}
-use Rattle.ask.specs.Answers.{records_after}
+use Rattle.ask.specs.Answers.{triples_text}
 
 module _ {W : Type 0} (took : W → List ℕ → W → Type 0) where
   -- from f to h the text `done` was written, and with the records that are left it is the text of all
   pub record Sofar (f : Formatter W) (all : List Progression) (before : List ℕ) (left : List Progression) (h : Formatter W) : Type 0 where
     pub done : List ℕ
     pub put : IsPlainFormatter f → HasWritten took f done h
-    pub whole : done ++ records_after before left ≡ records_after (ascii " ") all
+    pub whole : done ++ triples_text before left ≡ triples_text (ascii " ") all
 
   pub sofar_none : (f : Formatter W) (all : List Progression) → Sofar f all (ascii " ") all f
   sofar_none f all = record { done = []; put = λ plain. record { wrote = writes_in_calls_nil took _; plain = plain }; whole = refl }
@@ -23,7 +23,7 @@ module _ {W : Type 0} (took : W → List ℕ → W → Type 0) where
     -- the record at i is not in use
     pub sofar_skip : i < length all → (get_or all i (triple 0 0 0)).count ≡ 0 → Sofar f all before (drop (i + 1) all) h
     sofar_skip within none =
-        let next = at_drop_more (records_after before) all i (triple 0 0 0) within in
+        let next = at_drop_more (triples_text before) all i (triple 0 0 0) within in
         record {
           done = so.done;
           put = so.put;
@@ -34,8 +34,8 @@ module _ {W : Type 0} (took : W → List ℕ → W → Type 0) where
     pub sofar_more : (k : Formatter W) → i < length all → 0 < (get_or all i (triple 0 0 0)).count → (IsPlainFormatter h → HasWritten took h (before ++ triple_text (get_or all i (triple 0 0 0))) k) → Sofar f all (ascii " / ") (drop (i + 1) all) k
     sofar_more k within some written =
         let one = triple_text (get_or all i (triple 0 0 0)) in
-        let rest = records_after (ascii " / ") (drop (i + 1) all) in
-        let next = at_drop_more (records_after before) all i (triple 0 0 0) within in
+        let rest = triples_text (ascii " / ") (drop (i + 1) all) in
+        let next = at_drop_more (triples_text before) all i (triple 0 0 0) within in
         record {
           done = so.done ++ (before ++ one);
           put = λ plain. let first = so.put plain in has_written_append took f so.done h (before ++ one) k first (written first.plain);
@@ -43,8 +43,8 @@ module _ {W : Type 0} (took : W → List ℕ → W → Type 0) where
         }
 
     -- there is none
-    pub sofar_all : length all ≤ i → IsPlainFormatter f → HasWritten took f (records_after (ascii " ") all) h
+    pub sofar_all : length all ≤ i → IsPlainFormatter f → HasWritten took f (triples_text (ascii " ") all) h
     sofar_all past plain =
-        has_written_of_eq took f so.done _ h (sym (append-nil so.done) ∙ ap (λ l. so.done ++ l) (sym (at_drop_all (records_after before) all i past)) ∙ so.whole) (so.put plain)
+        has_written_of_eq took f so.done _ h (sym (append-nil so.done) ∙ ap (λ l. so.done ++ l) (sym (at_drop_all (triples_text before) all i past)) ∙ so.whole) (so.put plain)
 
 pub ruleset recording = (sofar_none, sofar_all)

@@ -19,14 +19,14 @@ pub data Reply : Type 0 where
   of_periods : Outcome (List Progression) → Reply
 
 -- the records of the periods of a fragment, all 17; refused likewise
-abbrev pub periods_outcome : List ℕ → Fragment → Outcome (List Progression)
-periods_outcome xs fragment = checked (periods_check xs fragment 17) (written_records (cut xs fragment))
+abbrev pub records_outcome : List ℕ → Fragment → Outcome (List Progression)
+records_outcome xs fragment = checked (periods_check xs fragment 17) (written_records (cut xs fragment))
 
 -- what a question about a list of codes comes to
 abbrev pub reply_to : Question → List ℕ → Reply
 reply_to (Places pattern field) xs = of_places (places_outcome xs pattern field)
 reply_to (Overlaps first second least) xs = of_overlaps (overlaps_outcome xs first second least)
-reply_to (Periods fragment) xs = of_periods (periods_outcome xs fragment)
+reply_to (Periods fragment) xs = of_periods (records_outcome xs fragment)
 
 -- what an answer says
 abbrev pub reply_of : Answer → Reply
@@ -39,18 +39,18 @@ abbrev pub windowed : Option Fragment → List ℕ → List ℕ
 windowed None xs = xs
 windowed (Some part) xs = cut xs part
 
-abbrev pub turned : Bool → List ℕ → List ℕ
-turned true xs = reverse xs
-turned false xs = xs
+abbrev pub reversed_if : Bool → List ℕ → List ℕ
+reversed_if true xs = reverse xs
+reversed_if false xs = xs
 
 abbrev pub seen_through : Layers → List ℕ → List ℕ
-seen_through layers xs = turned layers.reversed (windowed layers.window xs)
+seen_through layers xs = reversed_if layers.reversed (windowed layers.window xs)
 
 -- the records in use, the first of them after `before` and the others after a slash
-abbrev pub records_after : List ℕ → List Progression → List ℕ
-records_after before [] = []
-records_after before (r ∷ rs) =
-    cond (r.count == 0) (records_after before rs) (before ++ (triple_text r ++ records_after (ascii " / ") rs))
+abbrev pub triples_text : List ℕ → List Progression → List ℕ
+triples_text before [] = []
+triples_text before (r ∷ rs) =
+    cond (r.count == 0) (triples_text before rs) (before ++ (triple_text r ++ triples_text (ascii " / ") rs))
 
 -- how a refusal is shown, and what was found: three numbers, or `none`
 abbrev pub refused_shown : ℕ → List ℕ
@@ -69,7 +69,7 @@ abbrev pub found_text : Outcome (Option Progression) → List ℕ
 found_text found = ascii " " ++ found_shown found
 
 abbrev pub records_text : Outcome (List Progression) → List ℕ
-records_text (answered records) = records_after (ascii " ") records
+records_text (answered records) = triples_text (ascii " ") records
 records_text (refused number) = refused_text number
 
 -- what is written of a reply: the question's name and what it comes to

@@ -54,7 +54,7 @@ reversed_front (w ∷ ws) = cond (is_named w (ascii "reversed")) (Some (true, ws
 -- the layers: first a window, then a reversal
 abbrev pub layers_front : List (List ℕ) → Front Layers
 layers_front ws =
-    then_read (window_front ws) (λ part rest. then_read (reversed_front rest) (λ turned after. Some (record { window = part; reversed = turned }, after)))
+    then_read (window_front ws) (λ part rest. then_read (reversed_front rest) (λ reversed after. Some (record { window = part; reversed = reversed }, after)))
 
 -- the three questions with their numbers, and nothing after them
 abbrev pub places_words : List (List ℕ) → Option Question

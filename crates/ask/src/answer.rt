@@ -3,8 +3,8 @@
 ghost use Rattle.std.specs.Prelude.{◌≡◌, ℕ, List, ◌++◌, Some, codes as ascii};
 ghost use Rattle.std.specs.Fmt.{WritesOnOk};
 ghost use Rattle.questions.specs.Outcomes.{outcome};
-ghost use Rattle.ask.specs.Answers.{Reply, periods_outcome, reply_to, reply_of, seen_through, turned};
-ghost use Rattle.ask.specs.Answers.{records_after, found_shown, reply_text};
+ghost use Rattle.ask.specs.Answers.{Reply, records_outcome, reply_to, reply_of, seen_through, reversed_if};
+ghost use Rattle.ask.specs.Answers.{triples_text, found_shown, reply_text};
 
 use crate::question::{Layers, Question};
 use keepers::{Keeper, Reversed, Window};
@@ -31,7 +31,7 @@ pub trait Asking {
 
 // The records of a fragment's periods.
 fn periods_of<K: Keeper>(keeper: &K, fragment: Fragment) -> Result<[Progression; RECORDS], Refusal>
-    ensures { outcome result ≡ periods_outcome (K.codes keeper.now) fragment }
+    ensures { outcome result ≡ records_outcome (K.codes keeper.now) fragment }
 {
     let mut records = [Progression::default(); RECORDS];
     periods(keeper, fragment, &mut records)?;
@@ -63,8 +63,8 @@ pub struct Through<A> {
 
 impl<A: Asking> Through<A> {
     // Asks of what is seen through the window.
-    fn ask_turned<K: Keeper>(&self, keeper: &K) -> Answer
-        ensures { reply_of result ≡ A.reply self.now.asking (turned self.now.layers.reversed (K.codes keeper.now)) }
+    fn ask_windowed<K: Keeper>(&self, keeper: &K) -> Answer
+        ensures { reply_of result ≡ A.reply self.now.asking (reversed_if self.now.layers.reversed (K.codes keeper.now)) }
     {
         if self.layers.reversed {
             self.asking.ask(&Reversed { below: keeper })
@@ -79,11 +79,11 @@ impl<A: Asking> Asking for Through<A> {
 
     fn ask<K: Keeper>(&self, keeper: &K) -> Answer {
         match self.layers.window {
-            Some(part) => self.ask_turned(&Window {
+            Some(part) => self.ask_windowed(&Window {
                 below: keeper,
                 part,
             }),
-            None => self.ask_turned(keeper),
+            None => self.ask_windowed(keeper),
         }
     }
 }
@@ -130,7 +130,7 @@ fn write_records<W: fmt::Write>(
     f: &mut fmt::Formatter<W>,
     records: [Progression; RECORDS],
 ) -> fmt::Result
-    ensures { WritesOnOk W.Write.write_str_gives f.old result (records_after (ascii " ") records) f.new }
+    ensures { WritesOnOk W.Write.write_str_gives f.old result (triples_text (ascii " ") records) f.new }
 {
     let mut before = " ";
     for record in records.iter() {

@@ -1,14 +1,17 @@
--- The overlaps of lengths from d to 2d − 1 are a progression, fixed by the greatest two. Assumes nothing.
-use Rattle.std.proofs.Common.{◌≡◌, ℕ, ◌+◌, ◌-◌, ◌*◌, ◌/◌, ◌<◌, ◌≤◌, true, List, length, Some, None, Option, sym, ap, ◌∙◌, subst, inl, inr, arith}
+-- The overlaps of lengths from d to 2d − 1 are a progression, fixed by the greatest two; and what an answer
+-- that names them says. Assumes nothing.
+use Rattle.std.proofs.Common.{◌≡◌, ℕ, ◌+◌, ◌-◌, ◌*◌, ◌/◌, ◌<◌, ◌≤◌, true, ◌↔◌, List, length, Some, None, Option, sym, ap, ◌∙◌, subst, inl, inr, arith}
 use Rattle.std.proofs.lemmas.Nat.{div-add-mod'}
 use Rattle.std.proofs.lemmas.Bool.{both_ways, cases_lt}
+use Rattle.std.specs.List.{ContainsAt}
+use Rattle.std.specs.List.Sorted.{IsStrictlyIncreasing}
 use Rattle.periodicity.specs.declared.Progression.{Progression}
-use Rattle.periodicity.specs.Overlaps.{is_overlap}
-use Rattle.periodicity.specs.Progressions.{triple}
+use Rattle.periodicity.specs.Overlaps.{is_overlap, overlaps_of, Overlap, OverlapsNamed}
+use Rattle.periodicity.specs.Progressions.{triple, Names}
 use Rattle.periodicity.specs.Ranges.{NoneFrom, GreatestFrom, Stepwise, Tells}
-use Rattle.periodicity.proofs.Ranges.{multiple_within, counted_within, greatest_in, tells_one}
+use Rattle.periodicity.proofs.Ranges.{multiple_within, counted_within, greatest_in, tells_one, pass_from_has, has_from_pass, passes_ascend}
 use Rattle.periodicity.proofs.Borders.{Fit, shorter_divides, multiple_fits}
-use Rattle.periodicity.proofs.Sameness.{at, room_from_overlap, fit_from_overlap, overlap_from_fit}
+use Rattle.periodicity.proofs.Sameness.{at, room_from_overlap, fit_from_overlap, overlap_from_fit, overlap_from_test, test_from_overlap}
 
 -- the greatest length is l, the next q less
 module _ (first second : List ℕ) (d l q : ℕ) (apart : 0 < q) (low : d + q ≤ l) (high : l < d + d)
@@ -129,3 +132,22 @@ overlaps_tell first second d = outer (greatest_in (is_overlap first second) d d)
         let back : d + (l - d) ≡ l = omega (arith, longest.0) in
         let found = greatest_in (is_overlap first second) d (l - d) in
         inner l longest (found.0, subst (λ b. GreatestFrom (is_overlap first second) d b found.0) back found.1)
+
+-- what an answer that names the overlaps says
+module _ (first second : List ℕ) (d : ℕ) where
+  -- a number is among them exactly when it is from d to 2d − 1 and the lists overlap in so many codes
+  pub overlap_among : (n : ℕ) → ContainsAt (overlaps_of first second d) n ↔ ((d ≤ n) × (n < 2 * d) × Overlap first second n)
+  overlap_among n = (
+    λ has.
+        let kept = pass_from_has (is_overlap first second) d d n has in
+        (kept.0, omega (arith, kept.1), overlap_from_test first second n kept.2),
+    λ overlap. has_from_pass (is_overlap first second) d d n overlap.0 (omega (arith, overlap.1)) (test_from_overlap first second n overlap.2),
+  )
+
+  pub overlaps_named : (answer : Option Progression) → Names answer (overlaps_of first second d) → OverlapsNamed first second d answer
+  overlaps_named answer names =
+      record {
+        names = names;
+        ascending = subst (λ ys. IsStrictlyIncreasing ys) (sym names.all) (passes_ascend (is_overlap first second) d d);
+        exact = λ n. subst (λ ys. ContainsAt ys n ↔ ((d ≤ n) × (n < 2 * d) × Overlap first second n)) (sym names.all) (overlap_among n);
+      }

@@ -1,17 +1,20 @@
 -- The places of a pattern in a field shorter than twice the pattern are a progression, fixed by the
--- first two. Assumes nothing.
-use Rattle.std.proofs.Common.{◌≡◌, ℕ, zero, suc, ◌+◌, ◌-◌, ◌*◌, ◌/◌, ◌<◌, ◌≤◌, min, true, List, length, drop, Some, sym, ◌∙◌, subst, inl, inr, arith, length-drop, get_or-drop}
+-- first two; and what an answer that names them says. Assumes nothing.
+use Rattle.std.proofs.Common.{◌≡◌, ℕ, zero, suc, ◌+◌, ◌-◌, ◌*◌, ◌/◌, ◌<◌, ◌≤◌, min, true, ◌↔◌, List, length, drop, Some, Option, sym, ◌∙◌, subst, inl, inr, arith, length-drop, get_or-drop}
 use Rattle.std.proofs.lemmas.Nat.{div-add-mod'}
 use Rattle.std.proofs.lemmas.Bool.{both_ways, cases_lt, cases_eq}
+use Rattle.std.specs.List.{ContainsAt}
+use Rattle.std.specs.List.Sorted.{IsStrictlyIncreasing}
 use Rattle.periodicity.specs.declared.Fragment.{Fragment}
+use Rattle.periodicity.specs.declared.Progression.{Progression}
 use Rattle.periodicity.specs.Agreement.{Greatest}
 use Rattle.periodicity.specs.Fragments.{cut}
-use Rattle.periodicity.specs.Places.{is_place}
-use Rattle.periodicity.specs.Progressions.{Proper, triple}
+use Rattle.periodicity.specs.Places.{is_place, places_of, PlaceIn, PlacesNamed}
+use Rattle.periodicity.specs.Progressions.{Proper, triple, Names}
 use Rattle.periodicity.specs.Ranges.{NoneFrom, LeastFrom, Stepwise, Tells}
-use Rattle.periodicity.proofs.Ranges.{multiple_within, counted_within}
+use Rattle.periodicity.proofs.Ranges.{multiple_within, counted_within, pass_from_has, has_from_pass, passes_ascend}
 use Rattle.periodicity.proofs.Matches.{Match, later_divides, repeats_through, multiple_matches}
-use Rattle.periodicity.proofs.Sameness.{at, match_from_place, place_from_match}
+use Rattle.periodicity.proofs.Sameness.{at, match_from_place, place_from_match, place_from_test, test_from_place}
 
 -- two places agree for at least the pattern's length
 pub places_agree : (xs : List ℕ) (pattern : Fragment) (i j e : ℕ) → pattern.start + pattern.length ≤ length xs
@@ -147,3 +150,24 @@ module _ (xs : List ℕ) (pattern field : Fragment) (i j e : ℕ)
       proper : (r q k : ℕ) → 0 < q → k < 1 + r / q → q ≡ k * q → Proper (triple i q (1 + r / q))
       proper r q zero some less is_q = absurd (omega arith)
       proper r q (suc k) some less is_q = record { some = omega arith; alone = λ one. absurd (omega arith); still = λ none. absurd (omega arith) }
+
+-- what an answer that names the places says
+module _ (xs : List ℕ) (pattern field : Fragment) (in_strip : pattern.start + pattern.length ≤ length xs) (in_field : field.start + field.length ≤ length xs) where
+  -- a number is among the places exactly when the pattern stands there in the field
+  pub place_among : (i : ℕ) → ContainsAt (places_of xs pattern field) i ↔ PlaceIn xs pattern field i
+  place_among i =
+      let size = field.length + 1 - pattern.length in (
+        λ has.
+            let kept = pass_from_has (is_place xs pattern) field.start size i has in
+            place_from_test xs pattern in_strip field i kept.0 (omega (arith, kept.0, kept.1)) kept.2,
+        λ place.
+            has_from_pass (is_place xs pattern) field.start size i place.begins (omega (arith, place.begins, place.ends)) (test_from_place xs pattern in_strip field i in_field place),
+      )
+
+  pub places_named : (answer : Option Progression) → Names answer (places_of xs pattern field) → PlacesNamed xs pattern field answer
+  places_named answer names =
+      record {
+        names = names;
+        ascending = subst (λ ys. IsStrictlyIncreasing ys) (sym names.all) (passes_ascend (is_place xs pattern) field.start (field.length + 1 - pattern.length));
+        exact = λ i. subst (λ ys. ContainsAt ys i ↔ PlaceIn xs pattern field i) (sym names.all) (place_among i);
+      }

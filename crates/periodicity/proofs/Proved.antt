@@ -6,14 +6,14 @@ use Rattle.std.specs.List.{range_with_len}
 use Rattle.periodicity.specs.declared.Fragment.{Fragment}
 use Rattle.periodicity.specs.declared.Progression.{Progression}
 use Rattle.periodicity.specs.Agreement.{common}
-use Rattle.periodicity.specs.Laws.{TestsHold, CommonGreatest, DifferenceRepeats, LeastDivides, OverlapsProgress, PlacesProgress, RecordsJoin}
+use Rattle.periodicity.specs.Laws.{TestsHold, CommonGreatest, DifferenceRepeats, LeastDivides, OverlapsProgress, PlacesProgress, OverlapsExact, PlacesExact, RecordsJoin}
 use Rattle.periodicity.specs.Overlaps.{is_overlap}
 use Rattle.periodicity.specs.Places.{is_place}
 use Rattle.periodicity.specs.Progressions.{told, triple, Names}
 use Rattle.periodicity.specs.Ranges.{LeastFrom, Tells}
 use Rattle.periodicity.proofs.Agreements.{common_greatest}
-use Rattle.periodicity.proofs.OverlapsTold.{overlaps_tell}
-use Rattle.periodicity.proofs.PlacesTold.{places_told}
+use Rattle.periodicity.proofs.OverlapsTold.{overlaps_tell, overlap_among}
+use Rattle.periodicity.proofs.PlacesTold.{places_told, place_among}
 use Rattle.periodicity.proofs.Ranges.{told_tells, names_tells, least_in, stepwise_one}
 use Rattle.periodicity.proofs.RecordsTold.{written_name_all}
 use Rattle.periodicity.proofs.Repeats.{repeats_less, repeats_mod}
@@ -94,6 +94,15 @@ places_progress xs pattern field lies_pattern lies_field near =
       | inl short ↦ named_by_told (is_place xs pattern) field.start size None (λ n lo hi. absurd (omega arith))
       | inr long ↦ let tell = places_tell xs pattern field in_strip in_field near long in named_by_told (is_place xs pattern) field.start size tell.0 tell.1
     ]
+
+pub overlaps_exact : OverlapsExact
+overlaps_exact first second d n = overlap_among first second d n
+
+pub places_exact : PlacesExact
+places_exact xs pattern field lies_pattern lies_field i =
+    let in_strip = leb-true (pattern.start + pattern.length) (length xs) lies_pattern in
+    let in_field = leb-true (field.start + field.length) (length xs) lies_field in
+    place_among xs pattern field in_strip in_field i
 
 pub records_join : RecordsJoin
 records_join xs some short = (written_name_all xs some short).1

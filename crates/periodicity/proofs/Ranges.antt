@@ -1,8 +1,10 @@
 -- What passes a test in a range, as a list and as a progression. Assumes nothing.
 use Rattle.std.proofs.Common.{◌≡◌, ℕ, zero, suc, ◌+◌, ◌-◌, ◌*◌, ◌/◌, ◌<◌, ◌≤◌, Bool, true, false, cond, List, [], ◌∷◌, length, Some, None, filter, Option, sym, refl, ap, ◌∙◌, subst, inl, inr, mul-le-mul_right, arith}
 use Rattle.std.specs.List.{range_with_len, ContainsAt, AllByRecursion}
+use Rattle.std.specs.List.Sorted.{IsStrictlyIncreasing}
 use Rattle.std.proofs.lemmas.Nat.{div-add-mod', le-div}
 use Rattle.std.proofs.lemmas.List.FromFn.{length-range_with_len, get_or-range_with_len}
+use Rattle.std.proofs.lemmas.List.Kept.{IsStrictlyIncreasing-filter}
 use Rattle.std.proofs.ByRecursion.{All-from_get_or, all-has, all_kept_by, has_append_right, kept_by_passes}
 use Rattle.std.proofs.lemmas.Bool.{both_ways, cases_Bool, cases_lt, cases_eq}
 use Rattle.periodicity.specs.declared.Progression.{Progression}
@@ -201,3 +203,14 @@ module _ (test : ℕ → Bool) where
         | inl e ↦ has_here (test a) a p (filter test (range_with_len (a + 1) c)) (subst (λ k. test k ≡ true) (sym e) pass) e
         | inr off ↦ has_later (test a) a p (filter test (range_with_len (a + 1) c)) (has_from_pass (a + 1) c p (omega arith) (omega arith) pass)
       ]
+
+-- the numbers of a range ascend, and so do those that pass
+range_ascends : (a c : ℕ) → IsStrictlyIncreasing (range_with_len a c)
+range_ascends a c k h =
+    let next : k + 1 < c = omega (arith, length-range_with_len a c) in
+    let here = get_or-range_with_len a c k 0 (omega arith) in
+    let there = get_or-range_with_len a c (k + 1) 0 next in
+    omega (arith, here, there)
+
+pub passes_ascend : (test : ℕ → Bool) (a c : ℕ) → IsStrictlyIncreasing (filter test (range_with_len a c))
+passes_ascend test a c = IsStrictlyIncreasing-filter test (range_with_len a c) (range_ascends a c)

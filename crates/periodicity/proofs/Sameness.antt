@@ -5,8 +5,8 @@ use Rattle.std.proofs.lemmas.Bool.{both_ways, and_parts, and_from, eqb-true, eq-
 use Rattle.periodicity.specs.declared.Fragment.{Fragment}
 use Rattle.periodicity.specs.Agreement.{same}
 use Rattle.periodicity.specs.Fragments.{part, cut}
-use Rattle.periodicity.specs.Places.{is_place}
-use Rattle.periodicity.specs.Overlaps.{is_overlap}
+use Rattle.periodicity.specs.Places.{is_place, PlaceIn}
+use Rattle.periodicity.specs.Overlaps.{is_overlap, Overlap}
 use Rattle.periodicity.specs.Periods.{Period, has_period}
 use Rattle.periodicity.proofs.Matches.{Match}
 use Rattle.periodicity.proofs.Borders.{Fit}
@@ -51,6 +51,19 @@ module _ (xs : List ℕ) (pattern : Fragment) (in_strip : pattern.start + patter
       (ext_get_or 0 (part xs i pattern.length) (cut xs pattern) (here ∙ sym there)
       (λ k h. let below : k < pattern.length = omega arith in at_part xs i pattern.length k below ∙ match k below))
 
+  pub place_from_test : (field : Fragment) (i : ℕ) → field.start ≤ i → i + pattern.length ≤ field.start + field.length → is_place xs pattern i ≡ true
+      → PlaceIn xs pattern field i
+  place_from_test field i begins ends t =
+      record {
+        begins = begins;
+        ends = ends;
+        each = λ k h. match_from_place i t k h ∙ at_part xs pattern.start pattern.length k h;
+      }
+
+  pub test_from_place : (field : Fragment) (i : ℕ) → field.start + field.length ≤ length xs → PlaceIn xs pattern field i → is_place xs pattern i ≡ true
+  test_from_place field i in_field place =
+      place_from_match i (omega (arith, place.ends)) (λ k h. place.each k h ∙ sym (at_part xs pattern.start pattern.length k h))
+
 -- an overlap is a length that fits
 module _ (first second : List ℕ) where
   pub room_from_overlap : (n : ℕ) → is_overlap first second n ≡ true → (n ≤ length first) × (n ≤ length second)
@@ -73,6 +86,14 @@ module _ (first second : List ℕ) where
       (λ k h.
       let below : k < n = omega (arith, simp length-drop at h) in
       get_or-drop (length second - n) second k 0 ∙ fit k below ∙ sym (get_or-take n first k 0 below))))
+
+  pub overlap_from_test : (n : ℕ) → is_overlap first second n ≡ true → Overlap first second n
+  overlap_from_test n t =
+      let rooms = room_from_overlap n t in
+      record { in_first = rooms.0; in_second = rooms.1; each = fit_from_overlap n t }
+
+  pub test_from_overlap : (n : ℕ) → Overlap first second n → is_overlap first second n ≡ true
+  test_from_overlap n overlap = overlap_from_fit n overlap.in_first overlap.in_second overlap.each
 
 -- the test of a period
 pub period_from_test : (xs : List ℕ) (p : ℕ) → has_period xs p ≡ true → Period xs p

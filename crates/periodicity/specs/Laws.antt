@@ -1,12 +1,12 @@
 -- The facts of periodicity that the answers rest on, each in one statement. Assumes nothing.
 use Rattle.std.specs.Prelude.{◌≡◌, ℕ, ◌+◌, ◌-◌, ◌*◌, ◌%◌, ◌<◌, ◌≤◌, true, ◌↔◌, List, length}
-use Rattle.std.specs.List.{flat_map}
+use Rattle.std.specs.List.{flat_map, ContainsAt}
 use Rattle.periodicity.specs.declared.Fragment.{Fragment}
 use Rattle.periodicity.specs.Agreement.{same, common, Greatest}
 use Rattle.periodicity.specs.Fragments.{inside}
-use Rattle.periodicity.specs.Overlaps.{overlaps_of}
+use Rattle.periodicity.specs.Overlaps.{overlaps_of, Overlap}
 use Rattle.periodicity.specs.Periods.{Period, has_period, periods_of, written_records}
-use Rattle.periodicity.specs.Places.{places_of}
+use Rattle.periodicity.specs.Places.{places_of, PlaceIn}
 use Rattle.periodicity.specs.Progressions.{told, named_by, Names}
 
 -- the tests mean what they say: two lists are the same exactly when they are equal, and a list passes the
@@ -34,6 +34,15 @@ OverlapsProgress = (first second : List ℕ) (d : ℕ) → Names (told (overlaps
 abbrev pub PlacesProgress : Type 0
 PlacesProgress = (xs : List ℕ) (pattern field : Fragment) → inside xs pattern ≡ true → inside xs field ≡ true → field.length < 2 * pattern.length
     → Names (told (places_of xs pattern field)) (places_of xs pattern field)
+
+-- the overlaps listed are exactly the lengths from d to 2d − 1 in which the lists overlap
+abbrev pub OverlapsExact : Type 0
+OverlapsExact = (first second : List ℕ) (d n : ℕ) → ContainsAt (overlaps_of first second d) n ↔ ((d ≤ n) × (n < 2 * d) × Overlap first second n)
+
+-- the places listed are exactly those where the pattern stands in the field
+abbrev pub PlacesExact : Type 0
+PlacesExact = (xs : List ℕ) (pattern field : Fragment) → inside xs pattern ≡ true → inside xs field ≡ true
+    → (i : ℕ) → ContainsAt (places_of xs pattern field) i ↔ PlaceIn xs pattern field i
 
 -- the records of a list, joined, name all its periods, each once
 abbrev pub RecordsJoin : Type 0

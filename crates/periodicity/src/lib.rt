@@ -5,7 +5,7 @@
 ghost use Rattle.std.specs.Prelude.{◌≡◌, Some};
 ghost use Rattle.periodicity.specs.Fragments.{within};
 ghost use Rattle.periodicity.specs.Progressions.{triple_text};
-ghost use Rattle.periodicity.specs.Laws.{TestsHold, CommonGreatest, DifferenceRepeats, LeastDivides, OverlapsProgress, PlacesProgress, RecordsJoin};
+ghost use Rattle.periodicity.specs.Laws.{TestsHold, CommonGreatest, DifferenceRepeats, LeastDivides, OverlapsProgress, PlacesProgress, OverlapsExact, PlacesExact, RecordsJoin};
 
 use std::fmt;
 
@@ -50,5 +50,7 @@ fn laws_of_periodicity()
     ensures least { LeastDivides }
     ensures overlaps { OverlapsProgress }
     ensures places { PlacesProgress }
+    ensures overlaps_exact { OverlapsExact }
+    ensures places_exact { PlacesExact }
     ensures records { RecordsJoin }
 {}

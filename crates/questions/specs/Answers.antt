@@ -5,10 +5,10 @@ use Rattle.std.specs.List.{flat_map}
 use Rattle.periodicity.specs.declared.Fragment.{Fragment}
 use Rattle.periodicity.specs.declared.Progression.{Progression}
 use Rattle.periodicity.specs.Fragments.{cut}
-use Rattle.periodicity.specs.Places.{places_of}
-use Rattle.periodicity.specs.Overlaps.{is_overlap, overlaps_of}
+use Rattle.periodicity.specs.Places.{PlacesNamed}
+use Rattle.periodicity.specs.Overlaps.{is_overlap, OverlapsNamed}
 use Rattle.periodicity.specs.Periods.{periods_of, PeriodsNamed}
-use Rattle.periodicity.specs.Progressions.{Names, named_by}
+use Rattle.periodicity.specs.Progressions.{named_by}
 use Rattle.questions.specs.declared.refusal.Refusal.{Refusal}
 use Rattle.questions.specs.Outcomes.{refusal_number, places_check, overlaps_check, periods_check}
 
@@ -22,14 +22,15 @@ abbrev pub UnlessRefused : {A : Type 0} → Option ℕ → Result A Refusal → 
 UnlessRefused check (Ok a) Promise = (check ≡ None) × Promise a
 UnlessRefused check (Err e) Promise = check ≡ Some (refusal_number e)
 
--- first, step and count name exactly the places where the pattern's codes stand in the field
+-- first, step and count name exactly the places where the pattern's codes stand in the field, ascending, each
+-- once
 abbrev pub PlacesLaw : List ℕ → Fragment → Fragment → Result (Option Progression) Refusal → Type 0
-PlacesLaw xs pattern field r = UnlessRefused (places_check xs pattern field) r (λ answer. Names answer (places_of xs pattern field))
+PlacesLaw xs pattern field r = UnlessRefused (places_check xs pattern field) r (PlacesNamed xs pattern field)
 
--- .. exactly the lengths from d to 2d − 1 of suffixes of the second fragment that are prefixes of the first
+-- .. exactly the lengths from d to 2d − 1 of suffixes of the second fragment that are prefixes of the first,
+-- likewise
 abbrev pub OverlapsLaw : List ℕ → Fragment → Fragment → ℕ → Result (Option Progression) Refusal → Type 0
-OverlapsLaw xs first second least r =
-    UnlessRefused (overlaps_check xs first second least) r (λ answer. Names answer (overlaps_of (cut xs first) (cut xs second) least))
+OverlapsLaw xs first second least r = UnlessRefused (overlaps_check xs first second least) r (OverlapsNamed (cut xs first) (cut xs second) least)
 
 -- the numbers that the 17 records name, one record after the other, are all periods of the fragment, each once
 abbrev pub PeriodsLaw : List ℕ → Fragment → ℕ → List Progression → Result (Unit {0}) Refusal → Type 0
