@@ -66,7 +66,6 @@ pub printout_lawful : (job text : List ℕ) → text ≡ printed_by job → Lawf
 unfolding printed_by
 printout_lawful job text is =
     record {
-      lines = told_of job;
       prints = is;
       answers = answers_job job;
       law = subst (λ answers. OneNumber same_glyph answers (strips_of true glyph_code glyph_given [] (calls_of job))) (sym (answers_job job))

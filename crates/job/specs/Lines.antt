@@ -48,12 +48,11 @@ line_bytes t = line_text t ++ (10 ∷ [])
 unfoldable pub printed_by : List ℕ → List ℕ
 printed_by job = flat_map line_bytes (told_of job)
 
--- one strip has one number, one number has one strip, in what a job prints: the text is that of some lines; the
--- answers in their T, J and K lines are those that the plain book, which begins with no rows, has for the calls
--- that the job's bytes make; and any two of these lines that tell numbers tell equal ones exactly when the
+-- one strip has one number, one number has one strip, in what a job prints: the text is that of the lines that the
+-- job tells; the answers in their T, J and K lines are those that the plain book, which begins with no rows, has for
+-- the calls that the job's bytes make; and any two of these lines that tell numbers tell equal ones exactly when the
 -- strips that they wrote have the same length and the same glyphs
 pub record LawfulPrintout (job text : List ℕ) : Type 0 where
-  pub lines : List Told
-  pub prints : text ≡ flat_map line_bytes lines
-  pub answers : answers_in lines ≡ answers_of true glyph_code [] (calls_of job)
-  pub law : OneNumber same_glyph (answers_in lines) (strips_of true glyph_code glyph_given [] (calls_of job))
+  pub prints : text ≡ flat_map line_bytes (told_of job)
+  pub answers : answers_in (told_of job) ≡ answers_of true glyph_code [] (calls_of job)
+  pub law : OneNumber same_glyph (answers_in (told_of job)) (strips_of true glyph_code glyph_given [] (calls_of job))

@@ -1,0 +1,2 @@
+-- When a job over streams failed.
+pub mod Moments

@@ -1,0 +1,98 @@
+// What no clause says: how far an input is read, that calls succeed, and that a stream which fails half-way is
+// reported.
+use super::run_through;
+use failures::Failure;
+use std::io::{self, Cursor, ErrorKind, Read, Write};
+use std::test::Fail;
+
+// Gives the letter T, one with each call, and then fails.
+#[derive(Drop)]
+struct Broken {
+    left: usize,
+}
+
+impl Read for Broken {
+    fn read(&mut self, buf: &mut [u8]) -> io::Result<usize> {
+        if buf.is_empty() {
+            return Ok(0);
+        }
+        if self.left == 0 {
+            return Err(ErrorKind::Other.into());
+        }
+        self.left -= 1;
+        buf[0] = b'T';
+        Ok(1)
+    }
+}
+
+// Takes bytes while there is room, and then fails.
+#[derive(Drop)]
+struct Narrow {
+    taken: Vec<u8>,
+    room: usize,
+}
+
+impl Write for Narrow {
+    fn write(&mut self, buf: &[u8]) -> io::Result<usize> {
+        if self.room == 0 {
+            return Err(ErrorKind::Other.into());
+        }
+        let count = buf.len().min(self.room);
+        self.taken.extend_from_slice(&buf[..count])?;
+        self.room -= count;
+        Ok(count)
+    }
+
+    fn flush(&mut self) -> io::Result<()> {
+        Ok(())
+    }
+}
+
+// Each three of these bytes are a command that puts a glyph on the tray, which has room for 8,192.
+#[test]
+fn no_more_is_read_than_tells_that_a_job_is_too_long(rt: HostRuntime) -> Result<(), Fail> {
+    let cases: [(usize, u64, &str); 6] = [
+        (0, 0, ""),
+        (3, 3, ""),
+        (4, 4, "job stopped at 3\n"),
+        (32_768, 32_768, "job stopped at 24576\n"),
+        (32_769, 32_769, "job too long\n"),
+        (40_000, 32_769, "job too long\n"),
+    ];
+    for (size, read, printed) in cases {
+        let mut input = Cursor::new(vec![in rt.alloc(); b'C'; size]?);
+        let mut output = Vec::new(rt.alloc());
+        let outcome = run_through(rt.alloc(), &mut input, &mut output);
+        assert!(rt; outcome.is_ok(), "at {size}");
+        assert_eq!(rt; input.position(), read, "at {size}");
+        assert_eq!(rt; output.as_slice(), printed.as_bytes(), "at {size}");
+    }
+    Ok(())
+}
+
+#[test]
+fn an_input_without_end_is_too_long(rt: HostRuntime) {
+    let mut output = Vec::new(rt.alloc());
+    let outcome = run_through(rt.alloc(), io::repeat(b'T'), &mut output);
+    assert!(rt; outcome.is_ok());
+    assert_eq!(rt; output.as_slice(), b"job too long\n".as_slice());
+}
+
+#[test]
+fn nothing_is_written_where_reading_fails(rt: HostRuntime) {
+    let mut output = Vec::new(rt.alloc());
+    let outcome = run_through(rt.alloc(), Broken { left: 3 }, &mut output);
+    assert!(rt; matches!(outcome, Err(Failure::Read(_))));
+    assert!(rt; output.is_empty());
+}
+
+#[test]
+fn what_was_written_before_stays(rt: HostRuntime) {
+    let mut output = Narrow {
+        taken: Vec::new(rt.alloc()),
+        room: 6,
+    };
+    let outcome = run_through(rt.alloc(), b"TT".as_slice(), &mut output);
+    assert!(rt; matches!(outcome, Err(Failure::Write(_))));
+    assert_eq!(rt; output.taken.as_slice(), b"T 0\nT ".as_slice());
+}
