@@ -5,7 +5,7 @@ use Rattle.periodicity.specs.Agreement.{Greatest, ahead_of, behind_of}
 
 -- n answers for the places i and j of a strip: both lie within it, and n is the greatest number of codes
 -- in which `left` and `right`, what lies on one side of i and on the same side of j, agree
-pub record Answered (strip : List ℕ) (i j : ℕ) (left right : List ℕ) (n : ℕ) : Type 0 where
+pub record LongestWithin (strip : List ℕ) (i j : ℕ) (left right : List ℕ) (n : ℕ) : Type 0 where
   pub first_within : i ≤ length strip
   pub second_within : j ≤ length strip
   pub agreeing : Greatest left right n
@@ -13,7 +13,7 @@ pub record Answered (strip : List ℕ) (i j : ℕ) (left right : List ℕ) (n : 
 -- an absent answer says that a place is above the length, and a present one is the greatest and says that
 -- none is: so an answer is absent exactly when a place is above the length
 abbrev pub Longest : List ℕ → ℕ → ℕ → List ℕ → List ℕ → Option ℕ → Type 0
-Longest strip i j left right answer = MatchOption answer ((length strip < i) ⊎ (length strip < j)) (Answered strip i j left right)
+Longest strip i j left right answer = MatchOption answer ((length strip < i) ⊎ (length strip < j)) (LongestWithin strip i j left right)
 
 -- ahead of two places lies what follows from them on
 abbrev pub GreatestAhead : List ℕ → ℕ → ℕ → Option ℕ → Type 0

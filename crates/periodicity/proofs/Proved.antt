@@ -9,12 +9,12 @@ use Rattle.periodicity.specs.Agreement.{common}
 use Rattle.periodicity.specs.Laws.{TestsHold, CommonGreatest, DifferenceRepeats, LeastDivides, OverlapsProgress, PlacesProgress, OverlapsExact, PlacesExact, RecordsJoin}
 use Rattle.periodicity.specs.Overlaps.{is_overlap}
 use Rattle.periodicity.specs.Places.{is_place}
-use Rattle.periodicity.specs.Progressions.{told, triple, Names}
+use Rattle.periodicity.specs.Progressions.{progression_of, triple, Names}
 use Rattle.periodicity.specs.Ranges.{LeastFrom, Tells}
 use Rattle.periodicity.proofs.Agreements.{common_greatest}
 use Rattle.periodicity.proofs.OverlapsTold.{overlaps_tell, overlap_among}
 use Rattle.periodicity.proofs.PlacesTold.{places_told, place_among}
-use Rattle.periodicity.proofs.Ranges.{told_tells, names_tells, least_in, stepwise_one}
+use Rattle.periodicity.proofs.Ranges.{progression_of_tells, names_tells, least_in, stepwise_one}
 use Rattle.periodicity.proofs.RecordsTold.{written_name_all}
 use Rattle.periodicity.proofs.Repeats.{repeats_less, repeats_mod}
 use Rattle.periodicity.proofs.Sameness.{at, equal_from_same, same_from_equal, period_from_test, test_from_period}
@@ -38,9 +38,9 @@ least_divides xs p q some has_p least has_q fits =
 
 -- an answer that tells a filtered range is the one that the list tells
 named_by_told : (test : ℕ → Bool) (a c : ℕ) (answer : Option Progression) → Tells test a (a + c) answer
-    → Names (told (filter test (range_with_len a c))) (filter test (range_with_len a c))
+    → Names (progression_of (filter test (range_with_len a c))) (filter test (range_with_len a c))
 named_by_told test a c answer tells =
-    subst (λ o. Names o (filter test (range_with_len a c))) (sym (told_tells test a c answer tells)) (names_tells test a c answer tells)
+    subst (λ o. Names o (filter test (range_with_len a c))) (sym (progression_of_tells test a c answer tells)) (names_tells test a c answer tells)
 
 pub overlaps_progress : OverlapsProgress
 overlaps_progress first second d = let tell = overlaps_tell first second d in named_by_told (is_overlap first second) d d tell.0 tell.1

@@ -8,7 +8,7 @@ use Rattle.std.proofs.lemmas.List.Kept.{IsStrictlyIncreasing-filter}
 use Rattle.std.proofs.ByRecursion.{All-from_get_or, all-has, all_kept_by, has_append_right, kept_by_passes}
 use Rattle.std.proofs.lemmas.Bool.{both_ways, cases_Bool, cases_lt, cases_eq}
 use Rattle.periodicity.specs.declared.Progression.{Progression}
-use Rattle.periodicity.specs.Progressions.{progression, triple, told, Proper, Names}
+use Rattle.periodicity.specs.Progressions.{progression, triple, progression_of, Proper, Names}
 use Rattle.periodicity.specs.Ranges.{NoneFrom, LeastFrom, GreatestFrom, Stepwise, Tells}
 
 -- the first number of a progression that moves on is told apart from the others
@@ -73,10 +73,10 @@ pub length_progression : (x q n : ℕ) → length (progression x q n) ≡ n
 length_progression x q zero = refl
 length_progression x q (suc n) = ap suc (length_progression (x + q) q n)
 
-pub told_progression : (p : Progression) → Proper p → told (progression p.first p.step p.count) ≡ Some p
-told_progression p = go p.first p.step p.count
+pub progression_of_progression : (p : Progression) → Proper p → progression_of (progression p.first p.step p.count) ≡ Some p
+progression_of_progression p = go p.first p.step p.count
   where
-    go : (x q n : ℕ) → Proper (triple x q n) → told (progression x q n) ≡ Some (triple x q n)
+    go : (x q n : ℕ) → Proper (triple x q n) → progression_of (progression x q n) ≡ Some (triple x q n)
     go x q zero h = absurd (omega (arith, h.some))
     go x q (suc zero) h = ap (λ s. Some (triple x s 1)) (sym (h.alone refl))
     go x q (suc (suc n)) h =
@@ -86,9 +86,9 @@ told_progression p = go p.first p.step p.count
 
 -- an answer that tells what passes is the list's, and names it
 module _ (test : ℕ → Bool) (a c : ℕ) where
-  pub told_tells : (answer : Option Progression) → Tells test a (a + c) answer → told (filter test (range_with_len a c)) ≡ answer
-  told_tells None none = ap told (kept_none test a c none)
-  told_tells (Some p) t = ap told (kept_stepwise test a c p.first p.step p.count t.1) ∙ told_progression p t.0
+  pub progression_of_tells : (answer : Option Progression) → Tells test a (a + c) answer → progression_of (filter test (range_with_len a c)) ≡ answer
+  progression_of_tells None none = ap progression_of (kept_none test a c none)
+  progression_of_tells (Some p) t = ap progression_of (kept_stepwise test a c p.first p.step p.count t.1) ∙ progression_of_progression p t.0
 
   pub names_tells : (answer : Option Progression) → Tells test a (a + c) answer → Names answer (filter test (range_with_len a c))
   names_tells None none =

@@ -7,7 +7,7 @@ use Rattle.periodicity.specs.declared.Progression.{Progression}
 use Rattle.periodicity.specs.Fragments.{part}
 use Rattle.periodicity.specs.Overlaps.{is_overlap}
 use Rattle.periodicity.specs.Periods.{periods_in}
-use Rattle.periodicity.specs.Progressions.{told, mirrored}
+use Rattle.periodicity.specs.Progressions.{progression_of, mirrored}
 use Rattle.periodicity.specs.Ranges.{Tells}
 use Rattle.periodicity.proofs.RecordsTold.{told_from_borders}
 use Rattle.periodicity.proofs.Sameness.{length_part, room_from_overlap}
@@ -23,7 +23,7 @@ module _ (xs : List ℕ) (start n : ℕ) (lies : start + n ≤ length xs) (some 
 
   pub record_from_borders : (t d : ℕ) (answer : Option Progression) → d ≡ 2 ^ t
       → Tells (is_overlap (part xs start (n - 1)) (part xs (start + 1) (n - 1))) d (d + d) answer
-      → option_map (mirrored n) answer ≡ told (periods_in (part xs start n) t)
+      → option_map (mirrored n) answer ≡ progression_of (periods_in (part xs start n) t)
   record_from_borders t d answer power tells =
       let w = part xs start n in
       let long = length_part xs start n lies in

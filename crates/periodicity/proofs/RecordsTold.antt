@@ -11,9 +11,9 @@ use Rattle.std.proofs.lemmas.Bool.{both_ways, cases_Bool, and_parts, and_from, a
 use Rattle.periodicity.specs.declared.Progression.{Progression}
 use Rattle.periodicity.specs.Overlaps.{is_overlap}
 use Rattle.periodicity.specs.Periods.{Period, has_period, periods_of, border_in, periods_in, records_below, records_of, written_records, PeriodsNamed}
-use Rattle.periodicity.specs.Progressions.{triple, named, named_by, told, mirrored, Names}
+use Rattle.periodicity.specs.Progressions.{triple, named, named_by, progression_of, mirrored, Names}
 use Rattle.periodicity.specs.Ranges.{Stepwise, Tells}
-use Rattle.periodicity.proofs.Ranges.{kept_none, told_tells, names_tells, pass_from_has, has_from_pass}
+use Rattle.periodicity.proofs.Ranges.{kept_none, progression_of_tells, names_tells, pass_from_has, has_from_pass}
 use Rattle.periodicity.proofs.OverlapsTold.{overlaps_tell}
 use Rattle.periodicity.proofs.Sameness.{at, room_from_overlap, fit_from_overlap, overlap_from_fit, period_from_test, test_from_period}
 
@@ -186,12 +186,12 @@ module _ (xs : List ℕ) (some : 1 ≤ length xs) where
 
     -- what the record of the range is, from the answer about its borders
     pub told_from_borders : (answer : Option Progression) → Tells (is_overlap (take (length xs - 1) xs) (drop 1 xs)) (2 ^ t) (2 ^ t + 2 ^ t) answer
-        → (told (periods_in xs t) ≡ option_map (mirrored (length xs)) answer) × Names (option_map (mirrored (length xs)) answer) (periods_in xs t)
+        → (progression_of (periods_in xs t) ≡ option_map (mirrored (length xs)) answer) × Names (option_map (mirrored (length xs)) answer) (periods_in xs t)
     unfolding n front back in_this
     told_from_borders answer tells =
         let joint : periods_in xs t ≡ filter in_this (range_with_len 1 n) = kept_by_twice (λ p. border_in t (n - p)) (has_period xs) (range_with_len 1 n) in
         let m = mirror answer tells in (
-          ap told joint ∙ told_tells in_this 1 n (option_map (mirrored n) answer) m,
+          ap progression_of joint ∙ progression_of_tells in_this 1 n (option_map (mirrored n) answer) m,
           subst (λ ys. Names (option_map (mirrored n) answer) ys) (sym joint) (names_tells in_this 1 n (option_map (mirrored n) answer) m),
         )
 
@@ -229,7 +229,7 @@ module _ (xs : List ℕ) (some : 1 ≤ length xs) where
         and_true false v e = refl
 
   -- each range is told by its record
-  pub range_named : (t : ℕ) → Names (told (periods_in xs t)) (periods_in xs t)
+  pub range_named : (t : ℕ) → Names (progression_of (periods_in xs t)) (periods_in xs t)
   range_named t =
       let borders = overlaps_tell (take (length xs - 1) xs) (drop 1 xs) (2 ^ t) in
       let both = told_from_borders t borders.0 borders.1 in
@@ -245,14 +245,14 @@ module _ (xs : List ℕ) (some : 1 ≤ length xs) where
       sym (ap (λ c. filter (has_period xs) (range_with_len (n - 2 ^ 0 + 1) c)) (sym size) ∙ ap (λ a. filter (has_period xs) (range_with_len a 1)) (sym start)
       ∙ ap (λ b. cond b (n ∷ []) []) whole)
   records_join (suc t) =
-      let here : flat_map named_by (option_to_list (told (periods_in xs t))) ≡ periods_in xs t = joined_answer (told (periods_in xs t)) ∙ (range_named t).all in
+      let here : flat_map named_by (option_to_list (progression_of (periods_in xs t))) ≡ periods_in xs t = joined_answer (progression_of (periods_in xs t)) ∙ (range_named t).all in
       let twice = pow-add 2 t 1 in
       let power : 2 ^ suc t ≡ 2 ^ (t + 1) = omega arith in
       let lo = n - 2 ^ (t + 1) in
       let mid = (n - 2 ^ t) - lo in
       let sum : mid + (n - (n - 2 ^ t)) ≡ n - lo = omega arith in
       let next : lo + 1 + mid ≡ n - 2 ^ t + 1 = omega arith in
-      joined_append named_by (option_to_list (told (periods_in xs t))) (records_below xs t)
+      joined_append named_by (option_to_list (progression_of (periods_in xs t))) (records_below xs t)
       ∙ ap (λ ys. ys ++ flat_map named_by (records_below xs t)) (here ∙ stretch t)
       ∙ ap (λ ys. filter (has_period xs) (range_with_len (lo + 1) mid) ++ ys) (records_join t ∙ ap (λ a. filter (has_period xs) (range_with_len a (n - (n - 2 ^ t)))) (sym next))
       ∙ sym (filter-append (has_period xs) (range_with_len (lo + 1) mid) (range_with_len (lo + 1 + mid) (n - (n - 2 ^ t))))
@@ -274,7 +274,7 @@ unfolding records_below
 records_few xs zero = omega arith
 records_few xs (suc t) =
     let few = records_few xs t in
-    let one : length (option_to_list (told (periods_in xs t))) ≤ 1 = at_most_one (told (periods_in xs t)) in
+    let one : length (option_to_list (progression_of (periods_in xs t))) ≤ 1 = at_most_one (progression_of (periods_in xs t)) in
     simp length-append (omega arith)
   where
     at_most_one : (o : Option Progression) → length (option_to_list o) ≤ 1
@@ -323,10 +323,10 @@ written_named xs some short =
     }
 
 -- the records, range by range
-pub records_step : (xs : List ℕ) (t : ℕ) → 0 < t → records_below xs t ≡ option_to_list (told (periods_in xs (t - 1))) ++ records_below xs (t - 1)
+pub records_step : (xs : List ℕ) (t : ℕ) → 0 < t → records_below xs t ≡ option_to_list (progression_of (periods_in xs (t - 1))) ++ records_below xs (t - 1)
 unfolding records_below
 records_step xs zero some = absurd (omega arith)
-records_step xs (suc t) some = let e : t ≡ suc t - 1 = omega arith in ap (λ k. option_to_list (told (periods_in xs k)) ++ records_below xs k) e
+records_step xs (suc t) some = let e : t ≡ suc t - 1 = omega arith in ap (λ k. option_to_list (progression_of (periods_in xs k)) ++ records_below xs k) e
 
 pub records_last : (xs : List ℕ) → records_below xs 0 ≡ triple (length xs) 0 1 ∷ []
 unfolding records_below

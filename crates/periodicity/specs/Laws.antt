@@ -7,7 +7,7 @@ use Rattle.periodicity.specs.Fragments.{inside}
 use Rattle.periodicity.specs.Overlaps.{overlaps_of, Overlap}
 use Rattle.periodicity.specs.Periods.{Period, has_period, periods_of, written_records}
 use Rattle.periodicity.specs.Places.{places_of, PlaceIn}
-use Rattle.periodicity.specs.Progressions.{told, named_by, Names}
+use Rattle.periodicity.specs.Progressions.{progression_of, named_by, Names}
 
 -- the tests mean what they say: two lists are the same exactly when they are equal, and a list passes the
 -- test of a period exactly when it has it
@@ -28,12 +28,12 @@ LeastDivides = (xs : List ℕ) (p q : ℕ) → 0 < p → Period xs p → ((r : �
 
 -- overlaps of lengths from d to 2d − 1 are a progression
 abbrev pub OverlapsProgress : Type 0
-OverlapsProgress = (first second : List ℕ) (d : ℕ) → Names (told (overlaps_of first second d)) (overlaps_of first second d)
+OverlapsProgress = (first second : List ℕ) (d : ℕ) → Names (progression_of (overlaps_of first second d)) (overlaps_of first second d)
 
 -- places in a field shorter than twice the pattern are a progression
 abbrev pub PlacesProgress : Type 0
 PlacesProgress = (xs : List ℕ) (pattern field : Fragment) → inside xs pattern ≡ true → inside xs field ≡ true → field.length < 2 * pattern.length
-    → Names (told (places_of xs pattern field)) (places_of xs pattern field)
+    → Names (progression_of (places_of xs pattern field)) (places_of xs pattern field)
 
 -- the overlaps listed are exactly the lengths from d to 2d − 1 in which the lists overlap
 abbrev pub OverlapsExact : Type 0

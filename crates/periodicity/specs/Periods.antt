@@ -4,7 +4,7 @@ use Rattle.std.specs.List.{range_with_len, flat_map, ContainsAt}
 use Rattle.std.specs.Option.{option_to_list}
 use Rattle.periodicity.specs.declared.Progression.{Progression}
 use Rattle.periodicity.specs.Agreement.{same}
-use Rattle.periodicity.specs.Progressions.{triple, named_by, told}
+use Rattle.periodicity.specs.Progressions.{triple, named_by, progression_of}
 
 -- p is a period: every code equals the one p further on, where there is one
 abbrev pub Period : List ℕ → ℕ → Type 0
@@ -30,7 +30,7 @@ periods_in xs t = filter (λ p. border_in t (length xs - p)) (periods_of xs)
 -- whose period is the length, gives the last
 unfoldable pub records_below : List ℕ → ℕ → List Progression
 records_below xs zero = triple (length xs) 0 1 ∷ []
-records_below xs (suc t) = option_to_list (told (periods_in xs t)) ++ records_below xs t
+records_below xs (suc t) = option_to_list (progression_of (periods_in xs t)) ++ records_below xs t
 
 -- the records of a list of at most 65,535 codes: its borders are below 2^16
 abbrev pub records_of : List ℕ → List Progression

@@ -30,10 +30,10 @@ counted (Some p) = p.count
 
 -- the answer that tells an ascending list: absent for none; else its first, how far on the second is
 -- (0 when there is none) and how many there are
-abbrev pub told : List ℕ → Option Progression
-told [] = None
-told (x ∷ []) = Some (triple x 0 1)
-told (x ∷ (y ∷ zs)) = Some (triple x (y - x) (length (x ∷ (y ∷ zs))))
+abbrev pub progression_of : List ℕ → Option Progression
+progression_of [] = None
+progression_of (x ∷ []) = Some (triple x 0 1)
+progression_of (x ∷ (y ∷ zs)) = Some (triple x (y - x) (length (x ∷ (y ∷ zs))))
 
 -- a progression names at least one number, and its step is 0 exactly when it names one alone
 pub record Proper (p : Progression) : Type 0 where

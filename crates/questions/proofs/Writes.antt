@@ -13,7 +13,7 @@ use Rattle.std.specs.declared.iter.Rev.{Rev}
 use Rattle.std.specs.declared.ops.Range.{Range}
 use Rattle.periodicity.specs.declared.Progression.{Progression}
 use Rattle.periodicity.specs.Periods.{periods_in, records_below, records_of, written_records}
-use Rattle.periodicity.specs.Progressions.{told, triple}
+use Rattle.periodicity.specs.Progressions.{progression_of, triple}
 use Rattle.periodicity.proofs.RecordsTold.{records_few}
 
 -- the numbers from a on, so many of them, backwards
@@ -48,18 +48,18 @@ kept_first : (o : Option Progression) (rs last : List Progression) → cons_opti
 kept_first None rs last = refl
 kept_first (Some p) rs last = refl
 
-pub records_listed : (w : List ℕ) (t : ℕ) → filter_map (λ t. told (periods_in w t)) (down 0 t) ++ option_to_list (Some (triple (length w) 0 1)) ≡ records_below w t
+pub records_listed : (w : List ℕ) (t : ℕ) → filter_map (λ t. progression_of (periods_in w t)) (down 0 t) ++ option_to_list (Some (triple (length w) 0 1)) ≡ records_below w t
 unfolding records_below
 records_listed w zero = refl
 records_listed w (suc t) =
-    ap (λ k. cons_option (told (periods_in w k)) (filter_map (λ t. told (periods_in w t)) (down 0 t)) ++ option_to_list (Some (triple (length w) 0 1))) (zero-add t)
-    ∙ kept_first (told (periods_in w t)) (filter_map (λ t. told (periods_in w t)) (down 0 t)) (option_to_list (Some (triple (length w) 0 1)))
-    ∙ ap (λ rs. option_to_list (told (periods_in w t)) ++ rs) (records_listed w t)
+    ap (λ k. cons_option (progression_of (periods_in w k)) (filter_map (λ t. progression_of (periods_in w t)) (down 0 t)) ++ option_to_list (Some (triple (length w) 0 1))) (zero-add t)
+    ∙ kept_first (progression_of (periods_in w t)) (filter_map (λ t. progression_of (periods_in w t)) (down 0 t)) (option_to_list (Some (triple (length w) 0 1)))
+    ∙ ap (λ rs. option_to_list (progression_of (periods_in w t)) ++ rs) (records_listed w t)
 
 records_some : (w : List ℕ) (t : ℕ) → 1 ≤ length (records_below w t)
 unfolding records_below
 records_some w zero = omega arith
-records_some w (suc t) = omega (arith, records_some w t, length-append (option_to_list (told (periods_in w t))) (records_below w t))
+records_some w (suc t) = omega (arith, records_some w t, length-append (option_to_list (progression_of (periods_in w t))) (records_below w t))
 
 -- and zeros, 17 of all of them
 pub all_written : (w : List ℕ) → (take 17 (records_of w ++ replicate 16 (triple 0 0 0)) ≡ written_records w) × (length (written_records w) ≡ 17)

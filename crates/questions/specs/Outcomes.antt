@@ -6,7 +6,7 @@ use Rattle.periodicity.specs.Fragments.{cut, inside}
 use Rattle.periodicity.specs.Places.{places_of}
 use Rattle.periodicity.specs.Overlaps.{overlaps_of}
 use Rattle.periodicity.specs.Periods.{written_records}
-use Rattle.periodicity.specs.Progressions.{told}
+use Rattle.periodicity.specs.Progressions.{progression_of}
 use Rattle.questions.specs.declared.refusal.Refusal.{Refusal}
 use Rattle.questions.specs.declared.refusal.Refusal.TheVariants.{FragmentLeavesStrip, FieldTooLong, ZeroOverlap, EmptyFragment, TooFewRecords}
 
@@ -58,10 +58,10 @@ periods_check xs fragment supplied =
 
 -- what each question comes to
 abbrev pub places_outcome : List ℕ → Fragment → Fragment → Outcome (Option Progression)
-places_outcome xs pattern field = checked (places_check xs pattern field) (told (places_of xs pattern field))
+places_outcome xs pattern field = checked (places_check xs pattern field) (progression_of (places_of xs pattern field))
 
 abbrev pub overlaps_outcome : List ℕ → Fragment → Fragment → ℕ → Outcome (Option Progression)
-overlaps_outcome xs first second least = checked (overlaps_check xs first second least) (told (overlaps_of (cut xs first) (cut xs second) least))
+overlaps_outcome xs first second least = checked (overlaps_check xs first second least) (progression_of (overlaps_of (cut xs first) (cut xs second) least))
 
 -- the caller's records after the question: the first 17 written, the others as they were; all as they
 -- were when a check refuses

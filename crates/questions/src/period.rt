@@ -6,7 +6,7 @@ ghost use Rattle.std.specs.Iterator.{IsFinite, Drains, size};
 ghost use Rattle.periodicity.specs.declared.Progression.{Progression};
 ghost use Rattle.periodicity.specs.Fragments.{cut};
 ghost use Rattle.periodicity.specs.Periods.{periods_in, written_records};
-ghost use Rattle.periodicity.specs.Progressions.{told, triple, mirrored};
+ghost use Rattle.periodicity.specs.Progressions.{progression_of, triple, mirrored};
 ghost use Rattle.questions.specs.Answers.{PeriodsLaw, PeriodsNamedLaw};
 ghost use Rattle.questions.specs.Outcomes.{outcome, refusal_number, checked, periods_check, after_periods};
 
@@ -113,7 +113,7 @@ impl<'a, K: Keeper> Part<'a, K> {
     // the fragment is an overlap of the fragment without its last code and without its first.
     fn range_record(&self, range: u32) -> Option<Progression>
         requires range { range < 16 }
-        ensures { result ≡ told (periods_in (cut (K.codes self.now.keeper.now) self.now.fragment) range) }
+        ensures { result ≡ progression_of (periods_in (cut (K.codes self.now.keeper.now) self.now.fragment) range) }
     {
         let borders = self.ends().overlaps_from(1 << range)?;
         Some(borders_record(self.fragment.length, borders))

@@ -1,8 +1,8 @@
 use Rattle.std.proofs.Common.{◌+◌, ◌-◌, sym}
 use Rattle.periodicity.specs.Places.{is_place, places_of}
-use Rattle.periodicity.specs.Progressions.{told}
+use Rattle.periodicity.specs.Progressions.{progression_of}
 use Rattle.periodicity.proofs.PlacesTold.{places_named}
-use Rattle.periodicity.proofs.Ranges.{told_tells, names_tells}
+use Rattle.periodicity.proofs.Ranges.{progression_of_tells, names_tells}
 use Rattle.questions.specs.Outcomes.{places_check}
 use Rattle.questions.proofs.Checks.{answered_unchecked}
 use Rattle.questions.proofs.place.places.Goals as goal
@@ -20,6 +20,6 @@ returns g c =
     let size = field.length + 1 - pattern.length in
     record {
       value = rw (← same.0, ← same.1, ← same.2)
-          (answered_unchecked (places_check xs pattern field) answer (told (places_of xs pattern field)) unchecked (sym (told_tells test field.start size answer c.places.ensures.places)));
+          (answered_unchecked (places_check xs pattern field) answer (progression_of (places_of xs pattern field)) unchecked (sym (progression_of_tells test field.start size answer c.places.ensures.places)));
       law = rw (← same.0, ← same.1, ← same.2) (unchecked, places_named xs pattern field parts.first_lies parts.second_lies answer (names_tells test field.start size answer c.places.ensures.places));
     }

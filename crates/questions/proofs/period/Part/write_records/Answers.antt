@@ -6,7 +6,7 @@ use Rattle.std.proofs.lemmas.Iterator.Adapters.{YieldsList-from_once, YieldsList
 use Rattle.periodicity.specs.declared.Progression.{Progression}
 use Rattle.periodicity.specs.Fragments.{cut}
 use Rattle.periodicity.specs.Periods.{periods_in, written_records}
-use Rattle.periodicity.specs.Progressions.{told, triple}
+use Rattle.periodicity.specs.Progressions.{progression_of, triple}
 use Rattle.periodicity.proofs.Sameness.{length_part}
 use Rattle.questions.proofs.Writes.{yields_down, records_listed, all_written}
 use Rattle.questions.proofs.period.Part.write_records.Goals as goal
@@ -26,7 +26,7 @@ returns g c =
     (YieldsList-at c.chain.ensures.first
     (YieldsList-from_chain
     (YieldsList-at c.chain-used.ensures.first
-    (YieldsList-from_filter_map _ (λ t. told (periods_in w t)) (YieldsList-at c.filter_map-borders.ensures.source (yields_down 16 c.border_ranges.ensures)) c.filter_map-borders.ensures.closure (λ x r q k. search (rules, tests))))
+    (YieldsList-from_filter_map _ (λ t. progression_of (periods_in w t)) (YieldsList-at c.filter_map-borders.ensures.source (yields_down 16 c.border_ranges.ensures)) c.filter_map-borders.ensures.closure (λ x r q k. search (rules, tests))))
     (YieldsList-at c.chain-used.ensures.second (YieldsList-from_once (Some last) (c.once.ensures.item ∙ ap Some is_last)))
     c.chain-used.ensures.first_done c.chain-used.ensures.second_done))
     (YieldsList-at c.chain.ensures.second (YieldsList-from_repeat_n (λ (x y : Progression). y ≡ x) 16 (triple 0 0 0) c.unused.ensures.count c.unused.ensures.zeros (λ y same. same)))
