@@ -53,7 +53,7 @@ fn unused() -> RepeatN<Progression>
     repeat_n(Progression::default(), RECORDS - 1)
 }
 
-// Writes what comes into the first records, one by one. By place, since the check knows nothing of what is
+// Writes what comes into the first records, one by one. By place, since the checker knows nothing of what is
 // written through a zipped `iter_mut`.
 fn write_first<I: Iterator<Item = Progression> + Drop>(records: &mut [Progression], new: I)
     requires can { I.can_next new }
