@@ -6,7 +6,6 @@ use failures::{Failure, exit_code};
 use std::io::{Read, Write};
 use std::process::ExitCode;
 
-// Like the `run` of strip_job, but for the reading and the call, which are most of it.
 fn run(rt: &HostRuntime) -> Result<(), Failure> {
     let heap = rt.alloc();
     let mut text = Vec::new(heap);
