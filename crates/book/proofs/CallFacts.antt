@@ -43,15 +43,15 @@ module _ (rows : List Row) (codes : List ℕ) (law : Lawful rows) (short : lengt
   filing_lawful places = filing_by rows codes places (λ t. Lawful t.rows) law (settling_lawful (settle rows codes) refl)
 
   -- the strip of a number that was answered stands under it
-  abbrev pub Standing : Turn → Type 0
-  Standing t = (n : ℕ) → t.answer ≡ answered n → Stands t.rows codes n
+  abbrev pub StandsUnder : Turn → Type 0
+  StandsUnder t = (n : ℕ) → t.answer ≡ answered n → Stands t.rows codes n
 
-  settling_stands : (o : Option Settled) → settle rows codes ≡ o → Standing (settling rows o)
+  settling_stands : (o : Option Settled) → settle rows codes ≡ o → StandsUnder (settling rows o)
   settling_stands None is n answer = absurd (refused_apart 5 n answer)
   settling_stands (Some s) is n answer = subst (λ k. Stands s.rows codes k) (let e : number_left s.numbers ≡ n = cc in e) (settled_stands rows codes s law short is)
 
-  pub filing_stands : (places : ℕ) → Standing (filing rows codes places)
-  filing_stands places = filing_by rows codes places Standing (λ n answer. absurd (refused_apart 4 n answer)) (settling_stands (settle rows codes) refl)
+  pub filing_stands : (places : ℕ) → StandsUnder (filing rows codes places)
+  filing_stands places = filing_by rows codes places StandsUnder (λ n answer. absurd (refused_apart 4 n answer)) (settling_stands (settle rows codes) refl)
 
 -- taking, check by check
 module _ {C : Type 0} (coded : C → Option ℕ) (rows : List Row) (cells : List C) (places : ℕ) where

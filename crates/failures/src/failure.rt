@@ -11,16 +11,16 @@ use std::{fmt, io};
 
 #[derive(Drop)]
 pub enum Failure {
-    // Standard input could not be read.
+    // The input could not be read: of a program, standard input.
     Read(io::Error),
     // There was too little memory.
     Memory,
-    // Standard output took no more.
+    // The output took no more: of a program, standard output.
     Write(io::Error),
 }
 
 impl Failure {
-    // What failed, in words of our own.
+    // What failed of a program, in words of our own.
     pub fn sentence(&self) -> &'static str
         ensures { result.now ≡ sentence_of self.now }
     {

@@ -23,8 +23,8 @@ fn read_at_most<R: Read + Drop>(heap: Global, input: R, limit: u64) -> io::Resul
     Ok(bytes)
 }
 
-// Runs the job that an input gives, and writes what it prints once it has ended. Where the bytes of the input and
-// of the output are known, as those in memory are, they are promised; of a stream of the system the library says none.
+// Runs the job that an input gives, and writes what it prints once it has ended. What is written is promised where the
+// bytes of both are known, as those in memory are; of a stream of the system the library tells none.
 #[tactic(auto, using(crate::proofs::Beginnings::printed_beginning))]
 pub fn run_through<R: Read + Drop, W: Write>(
     heap: Global,

@@ -48,7 +48,7 @@ impl Write for Narrow {
     }
 }
 
-// Each three of these bytes are a command that puts a glyph on the tray, which has room for 8,192.
+// Every three of these bytes make a command that puts a glyph on the tray, which has room for 8,192.
 #[test]
 fn no_more_is_read_than_tells_that_a_job_is_too_long(rt: HostRuntime) -> Result<(), Fail> {
     let cases: [(usize, u64, &str); 6] = [

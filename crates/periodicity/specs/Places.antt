@@ -8,7 +8,7 @@ use Rattle.periodicity.specs.Agreement.{same}
 use Rattle.periodicity.specs.Fragments.{part, cut}
 use Rattle.periodicity.specs.Progressions.{named, Names}
 
--- the pattern stands at place i of the field: the field has room for it there, and the strip's codes from i on
+-- the pattern stands in the field, at place i of the strip: the field has room for it there, and the strip's codes from i on
 -- are, one by one, the pattern's
 pub record PlaceIn (xs : List ℕ) (pattern field : Fragment) (i : ℕ) : Type 0 where
   pub begins : field.start ≤ i

@@ -4,10 +4,8 @@ ghost use Rattle.std.specs.Prelude.{◌≡◌, IfOk, string_bytes};
 ghost use Rattle.ask.specs.Transcript.{transcript_of};
 ghost use Rattle.question_cases.specs.Cases.{asking_lines, expected_line};
 
-use crate::pile::ask_pile;
-use crate::shelved::ask_shelved;
-use ask::{Layers, Line, Question, parse, transcript};
-use keepers::LooseStrip;
+use crate::asked::Asked;
+use ask::{Line, parse, transcript};
 use std::alloc::{AllocError, Global};
 
 // The columns of a line `question | codes | layers | arguments | answer`, where the layers with their bar may
@@ -21,14 +19,8 @@ pub struct Case<'a> {
     pub answer: &'a str,
 }
 
-// A case as it was understood: the strip's codes, the layers in two parts, and the question.
-#[derive(Drop)]
-struct Asked {
-    codes: Vec<u32>,
-    below: Layers,
-    above: Layers,
-    question: Question,
-}
+// What comes of a case of which a line is not understood.
+const NOT_UNDERSTOOD: &str = "not understood\n";
 
 impl<'a> Case<'a> {
     pub(crate) fn of(line: &'a str) -> Self {
@@ -91,28 +83,18 @@ impl<'a> Case<'a> {
 
     // The answer through layers upon layers.
     fn through_pile(self, heap: Global) -> Result<String, AllocError> {
-        match self.asked(heap)? {
-            Some(asked) => {
-                let strip = LooseStrip::new(asked.codes.as_slice());
-                let answer = ask_pile(&strip, asked.below, asked.above, asked.question);
-                format!(in heap; "{answer}\n")
-            }
-            None => String::from_str(heap, "not understood\n"),
-        }
+        let Some(asked) = self.asked(heap)? else {
+            return String::from_str(heap, NOT_UNDERSTOOD);
+        };
+        asked.of_codes(heap)
     }
 
-    // The answer of the same strip on a shelf.
-    pub(crate) fn shelved(self, heap: Global) -> Result<String, AllocError> {
-        match self.asked(heap)? {
-            Some(asked) => ask_shelved(
-                heap,
-                asked.codes.as_slice(),
-                asked.below,
-                asked.above,
-                asked.question,
-            ),
-            None => String::from_str(heap, "not understood\n"),
-        }
+    // The answer for the same strip on a shelf.
+    pub(crate) fn on_shelf(self, heap: Global) -> Result<String, AllocError> {
+        let Some(asked) = self.asked(heap)? else {
+            return String::from_str(heap, NOT_UNDERSTOOD);
+        };
+        asked.on_shelf(heap)
     }
 
     // The answer through layers that a line can name: two lines are answered as the program for lines does.

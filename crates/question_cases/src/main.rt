@@ -2,9 +2,8 @@
 // and of the same strip on a shelf.
 #![tactic(auto)]
 
+mod asked;
 mod case;
-mod pile;
-mod shelved;
 mod tallies;
 
 use anyhow::ensure;
@@ -21,8 +20,8 @@ fn run_file(rt: &HostRuntime, name: &str) -> anyhow::Result<Tallies> {
         let case = Case::of(line);
         let expected = case.expected(heap)?;
         let got = case.run(heap)?;
-        let shelved = case.shelved(heap)?;
-        let agrees = expected == got && expected == shelved;
+        let on_shelf = case.on_shelf(heap)?;
+        let agrees = expected == got && expected == on_shelf;
         tallies.count(case.question, agrees);
         if !agrees {
             let number = i.saturating_add(1);
@@ -30,7 +29,7 @@ fn run_file(rt: &HostRuntime, name: &str) -> anyhow::Result<Tallies> {
                 "{name} line {number}: expected {}, got {}, and {} on a shelf",
                 expected.trim(),
                 got.trim(),
-                shelved.trim()
+                on_shelf.trim()
             )?;
         }
     }

@@ -7,7 +7,7 @@ use Rattle.rows.specs.declared.Shape.{Shape}
 use Rattle.rows.specs.declared.Shape.TheVariants.{Leaf, Pair, Repeat}
 use Rattle.rows.specs.declared.Row.{Row}
 use Rattle.rows.specs.Filing.{find}
-use Rattle.rows.specs.Laws.{Known, symbols, spelled}
+use Rattle.rows.specs.Laws.{AllInUse, symbols, spelled}
 use Rattle.rows.specs.Rounds.{Block, one, new, blocks, leaf_block}
 use Rattle.rows.specs.Strips.{times, strip, expanded}
 use Rattle.rows.proofs.FilingFacts.{find_known}
@@ -62,7 +62,7 @@ module _ (rows : List Row) (parts : Parts rows) where
       ap (λ xs. xs ++ expanded rows numbers) (strip_found (Leaf c) n named.0) ∙ ap (λ xs. c ∷ xs) (leaves_keep codes numbers named.1)
 
 -- leaves are known, and a part of them stands for a part of the codes
-pub leaves_known : (rows : List Row) (codes numbers : List ℕ) → Named rows (map leaf_block codes) numbers → Known rows numbers
+pub leaves_known : (rows : List Row) (codes numbers : List ℕ) → Named rows (map leaf_block codes) numbers → AllInUse rows numbers
 leaves_known rows [] [] named = tt
 leaves_known rows [] (n ∷ numbers) named = absurd named
 leaves_known rows (c ∷ codes) [] named = absurd named

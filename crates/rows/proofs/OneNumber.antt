@@ -2,7 +2,7 @@
 use Rattle.std.proofs.Common.{◌≡◌, ℕ, ◌≤◌, ◌↔◌, List, [], ◌∷◌, ◌++◌, length, Some, sym, refl, ap, ◌∙◌, arith, length-append}
 use Rattle.std.proofs.lemmas.List.{append-nil}
 use Rattle.rows.specs.declared.Row.{Row}
-use Rattle.rows.specs.Laws.{Known}
+use Rattle.rows.specs.Laws.{AllInUse}
 use Rattle.rows.specs.Lawful.{Lawful}
 use Rattle.rows.specs.Rounds.{Settled, settle, number_left}
 use Rattle.rows.specs.Strips.{strip}
@@ -19,7 +19,7 @@ pub record Stands (rows : List Row) (codes : List ℕ) (n : ℕ) : Type 0 where
   pub comes : settle rows codes ≡ Some (record { numbers = numbers; rows = rows; rounds = rounds })
   pub is : number_left numbers ≡ n
 
-left_known : (rows : List Row) (numbers : List ℕ) → Known rows numbers → number_left numbers ≤ length rows
+left_known : (rows : List Row) (numbers : List ℕ) → AllInUse rows numbers → number_left numbers ≤ length rows
 left_known rows [] known = omega arith
 left_known rows (n ∷ numbers) known = known.0.1
 

@@ -4,7 +4,7 @@ use Rattle.std.proofs.Common.{◌≡◌, ℕ, Option, zero, suc, ◌+◌, ◌-�
 use Rattle.std.proofs.lemmas.Bool.{cases_lt, cases_eq}
 use Rattle.std.specs.List.{AllByRecursion}
 use Rattle.rows.specs.declared.Row.{Row}
-use Rattle.rows.specs.Laws.{Known, symbols, spelled, after_rounds}
+use Rattle.rows.specs.Laws.{AllInUse, symbols, spelled, after_rounds}
 use Rattle.rows.specs.Rounds.{Block, one, new, blocks, Filed, then, round, Settled, settled, rounds_from, leaf_block}
 use Rattle.rows.proofs.Ends.{blocks_shorter, blocks_unshortened, some_round_shortens}
 use Rattle.rows.proofs.FilingFacts.{find_known}
@@ -93,7 +93,7 @@ pub all_split : (P : ℕ → Type 0) (a b : List ℕ) → AllByRecursion P (a ++
 all_split P [] b h = (tt, h)
 all_split P (x ∷ a) b h = let rest = all_split P a b h.1 in ((h.0, rest.0), rest.1)
 
-pub named_known : (rows : List Row) (bs : List Block) (numbers : List ℕ) → Known rows (spelled bs) → Named rows bs numbers → Known rows numbers
+pub named_known : (rows : List Row) (bs : List Block) (numbers : List ℕ) → AllInUse rows (spelled bs) → Named rows bs numbers → AllInUse rows numbers
 named_known rows [] [] known named = tt
 named_known rows [] (n ∷ numbers) known named = absurd named
 named_known rows (b ∷ bs) [] known named = absurd named
@@ -104,11 +104,11 @@ named_known rows (new shape ∷ bs) (n ∷ numbers) known named =
     let is = find_known rows shape n named.0 in
     ((is.0, is.1), named_known rows bs numbers (all_split (λ i. (0 < i) × (i ≤ length rows)) (symbols (new shape)) (spelled bs) known).1 named.1)
 
-pub round_known : (rows : List Row) (k : ℕ) (s t : List ℕ) → Known rows s → Named rows (blocks k s) t → Known rows t
-round_known rows k s t known named = named_known rows (blocks k s) t (subst (λ xs. Known rows xs) (sym (spelled_blocks k s)) known) named
+pub round_known : (rows : List Row) (k : ℕ) (s t : List ℕ) → AllInUse rows s → Named rows (blocks k s) t → AllInUse rows t
+round_known rows k s t known named = named_known rows (blocks k s) t (subst (λ xs. AllInUse rows xs) (sym (spelled_blocks k s)) known) named
 
-pub comes_known : (rows : List Row) (j : ℕ) (s t : List ℕ) → Known rows s → Comes rows j s t → Known rows t
-comes_known rows zero s t known c = subst (λ xs. Known rows xs) c known
+pub comes_known : (rows : List Row) (j : ℕ) (s t : List ℕ) → AllInUse rows s → Comes rows j s t → AllInUse rows t
+comes_known rows zero s t known c = subst (λ xs. AllInUse rows xs) c known
 comes_known rows (suc j) s t known c = round_known rows (suc j) c.0 t (comes_known rows j s c.0 known c.1) c.2
 
 -- no rounds make a string longer
@@ -152,7 +152,7 @@ rounds_stay (suc most) k f s two run same h below =
     ]
 
 -- any 44 rounds on end shorten a string of two or more numbers
-pub rounds_shorten : (k : ℕ) (rows : List Row) (u : List ℕ) (s : Settled) → length rows ≤ 1024 → Known rows u → 2 ≤ length u → rounds_from 44 k (record { numbers = u; rows = rows }) ≡ Some s
+pub rounds_shorten : (k : ℕ) (rows : List Row) (u : List ℕ) (s : Settled) → length rows ≤ 1024 → AllInUse rows u → 2 ≤ length u → rounds_from 44 k (record { numbers = u; rows = rows }) ≡ Some s
     → length s.numbers < length u
 rounds_shorten k rows [] s few known long run = absurd (omega arith)
 rounds_shorten k rows (x ∷ []) s few known long run = absurd (omega arith)
@@ -200,7 +200,7 @@ module _ (rows : List Row) where
       ap (λ n. rest n k u) e ∙ same ∙ rounds_spent (k + i) (record { numbers = t; rows = rows })
 
   -- so there are at most 44 rounds for each number that a string loses, and fewer than 44 more
-  pub rounds_few : (q j : ℕ) (s t : List ℕ) → length rows ≤ 1024 → Known rows s → Comes rows j s t → 2 ≤ length t → j < 44 * q → j < 44 * (1 + (length s - length t))
+  pub rounds_few : (q j : ℕ) (s t : List ℕ) → length rows ≤ 1024 → AllInUse rows s → Comes rows j s t → 2 ≤ length t → j < 44 * q → j < 44 * (1 + (length s - length t))
   rounds_few zero j s t few known c long below = absurd (omega arith)
   rounds_few (suc q) j s t few known c long below =
       elim (cases_lt j 44) [

@@ -4,7 +4,7 @@ use Rattle.std.proofs.Common.{◌≡◌, ℕ, ◌<◌, ◌≤◌, List, [], ◌�
 use Rattle.std.specs.List.{AllByRecursion}
 use Rattle.rows.specs.declared.Row.{Row}
 use Rattle.rows.specs.Filing.{row_made}
-use Rattle.rows.specs.Laws.{Known, symbols, spelled, after_rounds, IsFragment}
+use Rattle.rows.specs.Laws.{AllInUse, symbols, spelled, after_rounds, IsFragment}
 use Rattle.rows.specs.Lawful.{Lawful}
 use Rattle.rows.specs.Rounds.{Block, one, new, blocks, Filed, round, leaf_block}
 use Rattle.rows.specs.Strips.{strip, expanded}
@@ -17,13 +17,13 @@ use Rattle.rows.proofs.SettleFacts.{parts_one_more, shape_parts, known_append, A
 use Rattle.rows.proofs.StripFacts.{Parts, strip_append, expanded_append}
 
 -- the strips of known numbers stay under added rows
-expanded_more : (rows more : List Row) (numbers : List ℕ) → Known rows numbers → expanded (rows ++ more) numbers ≡ expanded rows numbers
+expanded_more : (rows more : List Row) (numbers : List ℕ) → AllInUse rows numbers → expanded (rows ++ more) numbers ≡ expanded rows numbers
 expanded_more rows more [] known = refl
 expanded_more rows more (n ∷ numbers) known =
     ap (λ xs. xs ++ expanded (rows ++ more) numbers) (strip_append rows more n known.0.1) ∙ ap (λ xs. strip rows n ++ xs) (expanded_more rows more numbers known.1)
 
 -- the blocks of known numbers may be added to rows that have their parts below them
-parts_addable : (k : ℕ) (rows : List Row) (bs : List Block) → AllByRecursion (InRound k) bs → Known rows (spelled bs) → AllByRecursion (Addable Parts k rows) bs
+parts_addable : (k : ℕ) (rows : List Row) (bs : List Block) → AllByRecursion (InRound k) bs → AllInUse rows (spelled bs) → AllByRecursion (Addable Parts k rows) bs
 parts_addable k rows [] kinds known = tt
 parts_addable k rows (one n ∷ bs) kinds known = (tt, parts_addable k rows bs kinds.1 known.1)
 parts_addable k rows (new shape ∷ bs) kinds known =
@@ -35,16 +35,16 @@ parts_addable k rows (new shape ∷ bs) kinds known =
     )
 
 -- a round on known numbers keeps the strip
-pub round_keeps_strip : (k : ℕ) (f g : Filed) → Lawful f.rows → Known f.rows f.numbers → round k f ≡ Some g → expanded g.rows g.numbers ≡ expanded f.rows f.numbers
+pub round_keeps_strip : (k : ℕ) (f g : Filed) → Lawful f.rows → AllInUse f.rows f.numbers → round k f ≡ Some g → expanded g.rows g.numbers ≡ expanded f.rows f.numbers
 round_keeps_strip k f g law known h =
     let bs = blocks k f.numbers in
     let this = file_all_grows k bs f.rows g h in
-    let addable = parts_addable k f.rows bs (block_kinds k f.numbers) (subst (λ xs. Known f.rows xs) (sym (spelled_blocks k f.numbers)) known) in
+    let addable = parts_addable k f.rows bs (block_kinds k f.numbers) (subst (λ xs. AllInUse f.rows xs) (sym (spelled_blocks k f.numbers)) known) in
     let parts = filing_keeps Parts k f.rows bs g addable (lawful_parts f.rows law) h in
     round_keeps g.rows parts k f.numbers g.numbers this.names ∙ ap (λ rs. expanded rs f.numbers) this.grows ∙ expanded_more f.rows this.added f.numbers known
 
 -- between the rounds the rows are lawful, and the numbers known
-pub lawful_between : (j : ℕ) (rows : List Row) (codes : List ℕ) (f : Filed) → Lawful rows → length codes ≤ 65535 → after_rounds j rows codes ≡ Some f → Lawful f.rows × Known f.rows f.numbers
+pub lawful_between : (j : ℕ) (rows : List Row) (codes : List ℕ) (f : Filed) → Lawful rows → length codes ≤ 65535 → after_rounds j rows codes ≡ Some f → Lawful f.rows × AllInUse f.rows f.numbers
 lawful_between j rows codes f law short h =
     let is = after_stands j rows codes f law short h in
     (is.lawful, comes_known f.rows j is.source f.numbers (leaves_known f.rows codes is.source is.names) is.history)

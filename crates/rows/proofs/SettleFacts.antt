@@ -9,7 +9,7 @@ use Rattle.rows.specs.declared.Shape.{Shape}
 use Rattle.rows.specs.declared.Shape.TheVariants.{Leaf, Pair, Repeat}
 use Rattle.rows.specs.declared.Row.{Row}
 use Rattle.rows.specs.Filing.{find, row_of, shape_length, row_made, file}
-use Rattle.rows.specs.Laws.{Known, symbols, spelled, after_rounds}
+use Rattle.rows.specs.Laws.{AllInUse, symbols, spelled, after_rounds}
 use Rattle.rows.specs.Lawful.{parts_below, lawful_row, Lawful}
 use Rattle.rows.specs.Rounds.{Block, one, new, blocks, Filed, then, with_number, file_all, round, Settled, settled, rounds_from, leaf_block, enough_rounds, settle, number_left}
 use Rattle.rows.specs.Strips.{times, strip, expanded}
@@ -56,7 +56,7 @@ length_times (suc m) xs = length-append xs (times m xs) ∙ (let ih = length_tim
 known_length : (rows : List Row) → Lawful rows → (n : ℕ) → 0 < n → n ≤ length rows → (row_of rows n).length ≡ length (strip rows n)
 known_length rows law n some within = (row_lawful rows law n some within).long
 
-shape_long : (rows : List Row) (k : ℕ) (shape : Shape) → Lawful rows → InRound k (new shape) → Known rows (symbols (new shape)) → length (shape_strip rows shape) ≤ 65535
+shape_long : (rows : List Row) (k : ℕ) (shape : Shape) → Lawful rows → InRound k (new shape) → AllInUse rows (symbols (new shape)) → length (shape_strip rows shape) ≤ 65535
     → shape_length rows shape ≡ length (shape_strip rows shape)
 shape_long rows k (Leaf code) law kind known short = absurd kind
 shape_long rows k (Pair left right) law kind known short =
@@ -71,12 +71,12 @@ shape_long rows k (Repeat part count) law kind known short =
     let same : (row_of rows part).length * count ≡ length (strip rows part) * count = ap (λ n. n * count) p in
     omega arith
   where
-    first_known : (m : ℕ) → 0 < m → Known rows (replicate m part) → (0 < part) × (part ≤ length rows)
+    first_known : (m : ℕ) → 0 < m → AllInUse rows (replicate m part) → (0 < part) × (part ≤ length rows)
     first_known zero some all = absurd (omega arith)
     first_known (suc m) some all = all.0
 
 -- the parts of a shape that a round makes are known
-pub shape_parts : (rows : List Row) (k : ℕ) (shape : Shape) → InRound k (new shape) → Known rows (symbols (new shape)) → parts_below (length rows + 1) shape ≡ true
+pub shape_parts : (rows : List Row) (k : ℕ) (shape : Shape) → InRound k (new shape) → AllInUse rows (symbols (new shape)) → parts_below (length rows + 1) shape ≡ true
 shape_parts rows k (Leaf code) kind known = refl
 shape_parts rows k (Pair left right) kind known =
     let n = length rows + 1 in
@@ -88,7 +88,7 @@ shape_parts rows k (Repeat part count) kind known =
     let is = first_known count (omega (arith, kind.1)) known in
     and_from (ltb 0 part && ltb part n) (leb 2 count) (and_from (ltb 0 part) (ltb part n) (lt-ltb 0 part is.0) (lt-ltb part n (omega (arith, is.1)))) (le-leb 2 count kind.1)
   where
-    first_known : (m : ℕ) → 0 < m → Known rows (replicate m part) → (0 < part) × (part ≤ length rows)
+    first_known : (m : ℕ) → 0 < m → AllInUse rows (replicate m part) → (0 < part) × (part ≤ length rows)
     first_known zero some all = absurd (omega arith)
     first_known (suc m) some all = all.0
 
@@ -97,7 +97,7 @@ shape_two k (Leaf code) kind = absurd kind
 shape_two k (Pair left right) kind = omega arith
 shape_two k (Repeat part count) kind = omega (arith, length-replicate count part, kind.1)
 
-pub known_append : (rows more : List Row) (numbers : List ℕ) → Known rows numbers → Known (rows ++ more) numbers
+pub known_append : (rows more : List Row) (numbers : List ℕ) → AllInUse rows numbers → AllInUse (rows ++ more) numbers
 known_append rows more [] known = tt
 known_append rows more (n ∷ numbers) known = ((known.0.0, omega (arith, known.0.1, length-append rows more)), known_append rows more numbers known.1)
 
@@ -114,7 +114,7 @@ module _ (rows : List Row) (law : Lawful rows) (j : ℕ) (shape : Shape) (kind :
   number : ℕ
   number = length rows + 1
 
-  known : Known rows (symbols (new shape))
+  known : AllInUse rows (symbols (new shape))
   known = comes_known rows j source (symbols (new shape)) (leaves_known rows codes source leaf_names) history
 
   parts : parts_below number shape ≡ true
@@ -294,7 +294,7 @@ pub record Settles (rows : List Row) (codes : List ℕ) (s : Settled) : Type 0 w
   pub added : List Row
   pub grows : s.rows ≡ rows ++ added
   pub left : length s.numbers ≤ 1
-  pub known : Known s.rows s.numbers
+  pub known : AllInUse s.rows s.numbers
   pub strips : expanded s.rows s.numbers ≡ codes
   pub source : List ℕ
   pub names : Named s.rows (map leaf_block codes) source
@@ -329,7 +329,7 @@ settles rows codes s law short h =
       history = is.history;
     }
   where
-    at_most_one : (source : List ℕ) → (length s.numbers < 2) ⊎ (s.rounds ≡ 0 + enough_rounds (length codes)) → length source ≡ length codes → Known s.rows source
+    at_most_one : (source : List ℕ) → (length s.numbers < 2) ⊎ (s.rounds ≡ 0 + enough_rounds (length codes)) → length source ≡ length codes → AllInUse s.rows source
         → Comes s.rows s.rounds source s.numbers → length s.rows ≤ 1024 → length s.numbers ≤ 1
     at_most_one source (inl few) as_many numbers_known history rows_few = omega arith
     at_most_one source (inr all) as_many numbers_known history rows_few =

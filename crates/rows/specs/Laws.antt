@@ -41,18 +41,20 @@ Replays = (rows : List Row) (codes : List ℕ) (s : Settled) (more : List Row) �
 abbrev pub StripsStay : Type 0
 StripsStay = (rows more : List Row) (n : ℕ) → n ≤ length rows → strip (rows ++ more) n ≡ strip rows n
 
--- all numbers of a string are known
-abbrev pub Known : List Row → List ℕ → Type 0
-Known rows numbers = AllByRecursion (λ n. (0 < n) × (n ≤ length rows)) numbers
+-- every number of a string is that of a row in use
+abbrev pub AllInUse : List Row → List ℕ → Type 0
+AllInUse rows numbers = AllByRecursion (λ n. (0 < n) × (n ≤ length rows)) numbers
 
--- a round keeps the strip: the strips of the numbers, joined, are the same before and after
+-- a round on lawful rows keeps the strip of a string of their numbers: the strips of the numbers, joined, are the same
+-- before and after
 abbrev pub RoundKeepsStrip : Type 0
-RoundKeepsStrip = (k : ℕ) (f g : Filed) → Lawful f.rows → Known f.rows f.numbers → round k f ≡ Some g
+RoundKeepsStrip = (k : ℕ) (f g : Filed) → Lawful f.rows → AllInUse f.rows f.numbers → round k f ≡ Some g
     → expanded g.rows g.numbers ≡ expanded f.rows f.numbers
 
--- any 44 rounds on end shorten a string of two or more known numbers; they may stop before, at a single number
+-- where there are at most 1,024 rows, any 44 rounds on end shorten a string of two or more of their numbers; they may
+-- stop before, at a single number
 abbrev pub RoundsShorten : Type 0
-RoundsShorten = (k : ℕ) (f : Filed) (s : Settled) → length f.rows ≤ 1024 → Known f.rows f.numbers → 2 ≤ length f.numbers
+RoundsShorten = (k : ℕ) (f : Filed) (s : Settled) → length f.rows ≤ 1024 → AllInUse f.rows f.numbers → 2 ≤ length f.numbers
     → rounds_from 44 k f ≡ Some s → length s.numbers < length f.numbers
 
 -- the numbers that a block was read from
@@ -90,9 +92,9 @@ abbrev pub BetweenRounds : (ℕ → List ℕ → Filed → Type 0) → Type 0
 BetweenRounds holds = (j : ℕ) (rows : List Row) (codes : List ℕ) (f : Filed) → Lawful rows → length codes ≤ 65535 → after_rounds j rows codes ≡ Some f
     → holds j codes f
 
--- between the rounds the rows are lawful, and all numbers of the string are known
+-- between the rounds the rows are lawful, and every number of the string is that of one
 abbrev pub LawfulBetween : Type 0
-LawfulBetween = BetweenRounds (λ j codes f. Lawful f.rows × Known f.rows f.numbers)
+LawfulBetween = BetweenRounds (λ j codes f. Lawful f.rows × AllInUse f.rows f.numbers)
 
 -- a part of the string after j rounds writes a fragment of the strip, and j rounds on that fragment alone come to
 -- the part, on the same rows, with none added

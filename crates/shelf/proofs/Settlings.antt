@@ -94,6 +94,7 @@ writes_back : {C : Type 0} (same : C → C → Type 0) (given : ℕ → C) (rows
 writes_back same given rows cells n old known agree room =
     let fits : length old ≡ length (strip rows n) = room ∙ length_all_zip same cells (map given (strip rows n)) agree ∙ length-map (strip rows n) given in
     record {
+      whole = agree;
       allowed = cond-true (leb n (length rows)) _ _ (le-leb n (length rows) known) ∙ cond-true (leb (0 + length old) (length (strip rows n))) _ _ (le-leb (0 + length old) (length (strip rows n)) (omega (arith, fits)));
       same_cells = subst (λ xs. AllZip same cells (map given xs)) (sym (take_all (length old) (strip rows n) (omega (arith, fits)))) agree;
     }

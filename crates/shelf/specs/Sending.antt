@@ -30,8 +30,8 @@ pub record GoesOn {C : Type 0} (coded : C → Option ℕ) (given : ℕ → C) (s
   pub rows_told : rows ≡ book.rows_after true coded start (past ++ calls)
   pub law : OneNumber same (book.answers_of true coded start past ++ answers) (book.strips_of true coded given start (past ++ calls))
 
--- they do so whichever history it was that left the rows at entry on a shelf of the kind, and with whichever lawful
--- rows of the kind it began: with none on a new shelf
+-- they do so whichever history it was that left the rows at entry, on a shelf of the kind that began with any lawful
+-- rows of the kind; a new shelf begins with none
 abbrev pub AnyHistory : {C : Type 0} → (C → Option ℕ) → (ℕ → Bool) → (ℕ → C) → (C → C → Type 0) → Bool → List Row → List (book.Sent C) → List Answer → List Row → Type 0
 AnyHistory {C} coded has given same same_kind before calls answers after =
     (start : List Row) (past : List (book.Sent C)) → Lawful start → OfKind has start → same_kind ≡ true → before ≡ book.rows_after true coded start past

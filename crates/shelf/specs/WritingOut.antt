@@ -24,13 +24,14 @@ abbrev pub cells_after : {C : Type 0} → (ℕ → C) → Option ℕ → List Ro
 cells_after given None rows n start old = map given (part_of rows n start (length old))
 cells_after given (Some number) rows n start old = old
 
--- a strip that has these cells, written out into a list of as many places: no check refuses it, and the list then
--- has the same cells
+-- a number's strip has the same cells as these, no more and no fewer; and written out into a list of as many places,
+-- no check refuses it, and the list then has the same cells
 pub record WritesBack {C : Type 0} (same : C → C → Type 0) (given : ℕ → C) (rows : List Row) (cells : List C) (n : ℕ) (old : List C) : Type 0 where
+  pub whole : AllZip same cells (map given (strip rows n))
   pub allowed : writing_check true rows n 0 (length old) ≡ None
   pub same_cells : AllZip same cells (cells_after given None rows n 0 old)
 
--- the number answered is written out so, now and when rows have been added
+-- so it is with the number answered, now and when rows have been added
 abbrev pub WrittenBack : {C : Type 0} → (C → C → Type 0) → (ℕ → C) → List Row → List C → Result ℕ Refusal → Type 0
 WrittenBack {C} same given rows cells (Ok n) = (more : List Row) (old : List C) → length old ≡ length cells → WritesBack same given (rows ++ more) cells n old
 WrittenBack {C} same given rows cells (Err e) = Unit {0}

@@ -89,10 +89,7 @@ fn said_of_work(work: &[u16]) -> &'static str {
 }
 
 // The cells that the calls of a list take, call by call.
-fn cells_sent<K: Spelled + Copy + Drop>(
-    heap: Global,
-    calls: &[&str],
-) -> anyhow::Result<Vec<Vec<K>>> {
+fn cells_sent<K: Spelled + Copy>(heap: Global, calls: &[&str]) -> anyhow::Result<Vec<Vec<K>>> {
     calls
         .iter()
         .map(|call| -> anyhow::Result<Vec<K>> { cells_taken(heap, call) })
@@ -114,10 +111,7 @@ impl fmt::Display for ToldAll<'_> {
 
 impl Bench {
     // Performs a call that a line spells.
-    pub(crate) fn perform_call<K: Spelled + Copy + Drop>(
-        &mut self,
-        text: &str,
-    ) -> anyhow::Result<String> {
+    pub(crate) fn perform_call<K: Spelled + Copy>(&mut self, text: &str) -> anyhow::Result<String> {
         let cells = cells_taken::<K>(self.heap, text)?;
         let call = read_call(text, cells.as_slice())?;
         let mut work = work_area(self.heap, call.places)?;
@@ -128,10 +122,10 @@ impl Bench {
     }
 
     // Sends calls as a list: their number of answers, the work places there are, and the calls after bars.
-    pub(crate) fn send<K: Spelled + Copy + Drop>(
+    pub(crate) fn send<K: Spelled + Copy>(
         &mut self,
         text: &str,
-        shelf: Receiver,
+        receiver: Receiver,
     ) -> anyhow::Result<String> {
         let heap = self.heap;
         let mut parts = text.splitn(3, ' ');
@@ -161,7 +155,7 @@ impl Bench {
             requests.as_slice(),
             answers.as_mut_slice(),
             work.as_mut_slice(),
-            shelf,
+            receiver,
         )?;
         let answers = ToldAll(answers.as_slice());
         let count = self.shelf.count();
@@ -169,15 +163,15 @@ impl Bench {
         Ok(format!(in heap; "{sent}{answers}, {count} rows{said}")?)
     }
 
-    // Sends requests, and says how many were performed or, of a new shelf, which does not say that, its kind.
+    // Sends requests, and says how many were performed; of a new shelf, whose call answers no count, which kind it has.
     fn deliver<K: CellKind>(
         &mut self,
         requests: &[Sent<'_, K>],
         answers: &mut [Answer],
         work: &mut [u16],
-        shelf: Receiver,
+        receiver: Receiver,
     ) -> Result<String, AllocError> {
-        match shelf {
+        match receiver {
             Receiver::Present => {
                 let performed = self.shelf.send(requests, answers, work);
                 format!(in self.heap; "{performed} performed")
@@ -192,7 +186,7 @@ impl Bench {
 
     // Takes the cell of a code alone. In a list, since `&[cell]` at a type parameter asks that its size is known
     // to fit memory.
-    fn take_one<K: CellKind + Copy + Drop>(
+    fn take_one<K: CellKind + Copy>(
         &mut self,
         code: u16,
         places: usize,
@@ -203,7 +197,7 @@ impl Bench {
     }
 
     // Takes cells one by one, those of codes that follow each other: work places, the first code, and how many.
-    pub(crate) fn each<K: CellKind + Copy + Drop>(&mut self, text: &str) -> anyhow::Result<String> {
+    pub(crate) fn each<K: CellKind + Copy>(&mut self, text: &str) -> anyhow::Result<String> {
         let mut words = text.split(' ');
         let places = number(words.next())?;
         let first = number::<u16>(words.next())?;

@@ -66,7 +66,7 @@ impl Bench {
     }
 
     // Writes out a part of a strip into a list of fillers.
-    fn write_part<K: Spelled + Copy + Drop>(&self, text: &str) -> anyhow::Result<String> {
+    fn write_part<K: Spelled + Copy>(&self, text: &str) -> anyhow::Result<String> {
         let mut words = text.split(' ');
         let row = number(words.next())?;
         let start = number(words.next())?;
@@ -79,7 +79,7 @@ impl Bench {
 
     // What is read of a shelf. Any other word writes a part out, as `write` does, so that lines are read as they
     // always were.
-    fn read<K: Spelled + Copy + Drop>(&self, name: &str, rest: &str) -> anyhow::Result<String> {
+    fn read<K: Spelled + Copy>(&self, name: &str, rest: &str) -> anyhow::Result<String> {
         match name {
             "row" => self.row(rest),
             "length" => self.length(rest),
@@ -88,7 +88,7 @@ impl Bench {
         }
     }
 
-    fn answer_of_kind<K: Spelled + Copy + Drop>(&mut self, text: &str) -> anyhow::Result<String> {
+    fn answer_of_kind<K: Spelled + Copy>(&mut self, text: &str) -> anyhow::Result<String> {
         let (name, rest) = word(text);
         match name {
             "new" => Ok(self.empty::<K>()?),

@@ -33,13 +33,13 @@ impl<'a> ShelfStrip<'a> {
 }
 
 impl ShelfStrip<'_> {
-    ghost use Rattle.shelf_strip.specs.ShelfStrip.{strip_of};
+    ghost use Rattle.shelf_strip.specs.ShelfStrip.{number_of, shelf_of, strip_of};
 
     // How many codes agree from two places on, counted from one side.
     fn agreeing(&self, side: Side, i: usize, j: usize) -> usize
         requires first { i ≤ length (strip_of self.now) }
         requires second { j ≤ length (strip_of self.now) }
-        ensures { result ≡ common (drop i (seen side (rows_on self.now.shelf.now) self.now.number)) (drop j (seen side (rows_on self.now.shelf.now) self.now.number)) }
+        ensures { result ≡ common (drop i (seen side (rows_on (shelf_of self.now)) (number_of self.now))) (drop j (seen side (rows_on (shelf_of self.now)) (number_of self.now))) }
     {
         let len = self.len();
         let room = len - i.max(j);
