@@ -1,5 +1,6 @@
 -- Facts on rows in slots, on lengths that are kept, on rounds in place and on leaves written out.
 pub mod LengthFacts
+pub mod BucketFacts
 pub mod SlotFacts
 pub mod FileFacts
 pub mod RoundFacts

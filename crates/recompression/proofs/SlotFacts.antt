@@ -4,10 +4,13 @@ use Rattle.std.proofs.lemmas.List.{take_more_set, take_at, take_all, take-take, 
 use Rattle.std.proofs.lemmas.Bool.{cases_Bool, cases_lt, cond-true, cond-false, and_from, and_parts, lt-ltb, le-leb, ltb-true, leb-true}
 use Rattle.rows.specs.declared.Shape.{Shape}
 use Rattle.rows.specs.declared.Row.{Row}
-use Rattle.rows.specs.Filing.{blank_row, row_of, row_made}
+use Rattle.rows.specs.Filing.{blank_row, row_of, row_made, find}
 use Rattle.recompression.specs.Contents.{row_at}
+use Rattle.recompression.specs.Buckets.{IndexOf, Distinct}
 use Rattle.recompression.specs.Tables.{in_use, is_blank_row, LengthsKept, Sound, appended, truncated}
+use Rattle.recompression.specs.declared.index.Index.{Index}
 use Rattle.recompression.specs.declared.slots.Slots.{Slots}
+use Rattle.recompression.proofs.BucketFacts.{distinct_none, distinct_added, distinct_taken}
 use Rattle.recompression.proofs.LengthFacts.{lengths_none, lengths_added, lengths_taken}
 
 pub blank_slots : (n k : ℕ) → get_or (replicate n blank_row) k blank_row ≡ blank_row
@@ -19,12 +22,14 @@ blank_slots (suc n) (suc k) = blank_slots n k
 pub none_in_use : (s : Slots) → s.count ≡ 0 → in_use s ≡ []
 none_in_use s none = ap (λ n. take n s.rows) none
 
-pub blank_sound : (s : Slots) → s.rows ≡ replicate 1024 blank_row → s.count ≡ 0 → Sound s
-blank_sound s blank none = (
+pub blank_sound : (s : Slots) → s.rows ≡ replicate 1024 blank_row → s.count ≡ 0 → IndexOf [] s.index → Sound s
+blank_sound s blank none indexed = (
   ap length blank,
   omega arith,
   λ k h. ap (λ rows. is_blank_row (get_or rows k blank_row)) blank ∙ rw (blank_slots 1024 k),
   subst LengthsKept (sym (none_in_use s none)) lengths_none,
+  subst (λ rows. IndexOf rows s.index) (sym (none_in_use s none)) indexed,
+  subst Distinct (sym (none_in_use s none)) distinct_none,
 )
 
 -- a row that is put at i leaves those after it
@@ -37,20 +42,28 @@ blank_after rows i row after k h =
 pub length_in_use : (s : Slots) → Sound s → length (in_use s) ≡ s.count
 length_in_use s sound = length-take-le s.count s.rows (omega arith)
 
-pub appended_rows : (s : Slots) (row : Row) → s.count < 1024 → Sound s → in_use (appended s row) ≡ in_use s ++ (row ∷ [])
-appended_rows s row room sound = take_more_set s.rows s.count row (omega arith)
+pub appended_rows : (s : Slots) (row : Row) (index : Index) → s.count < 1024 → Sound s → in_use (appended s row index) ≡ in_use s ++ (row ∷ [])
+appended_rows s row index room sound = take_more_set s.rows s.count row (omega arith)
 
-pub appended_sound : (s : Slots) (k : ℕ) (shape : Shape) → s.count < 1024 → Sound s → Sound (appended s (row_made k (in_use s) shape))
-appended_sound s k shape room sound =
+pub appended_sound : (s : Slots) (k : ℕ) (shape : Shape) (index : Index) → s.count < 1024 → Sound s → find (in_use s) shape ≡ None
+    → IndexOf (in_use s ++ (row_made k (in_use s) shape ∷ [])) index → Sound (appended s (row_made k (in_use s) shape) index)
+appended_sound s k shape index room sound none indexed =
     let row = row_made k (in_use s) shape in
-    (length-set s.rows s.count row ∙ sound.0, omega arith, blank_after s.rows s.count row sound.2, subst LengthsKept (sym (appended_rows s row room sound)) (lengths_added (in_use s) k shape sound.3))
+    let rows = appended_rows s row index room sound in (
+      length-set s.rows s.count row ∙ sound.0,
+      omega arith,
+      blank_after s.rows s.count row sound.2,
+      subst LengthsKept (sym rows) (lengths_added (in_use s) k shape sound.3),
+      subst (λ rs. IndexOf rs index) (sym rows) indexed,
+      subst Distinct (sym rows) (distinct_added (in_use s) row sound.5 none),
+    )
 
 -- slots cut off after the first n rows in use
-module _ (n : ℕ) (s : Slots) (sound : Sound s) where
+module _ (n : ℕ) (s : Slots) (index : Index) (sound : Sound s) where
   front_long : length (take (min s.count n) s.rows) ≡ min s.count n
   front_long = length-take-le (min s.count n) s.rows (omega arith)
 
-  pub truncated_rows : in_use (truncated n s) ≡ take n (in_use s)
+  pub truncated_rows : in_use (truncated n s index) ≡ take n (in_use s)
   truncated_rows =
       take_at (take (min s.count n) s.rows) (replicate (length s.rows - min s.count n) blank_row) (min s.count n) front_long
       ∙ elim (cases_lt s.count n) [
@@ -62,17 +75,19 @@ module _ (n : ℕ) (s : Slots) (sound : Sound s) where
             ap (λ m. take m s.rows) first ∙ sym (take-take n s.count s.rows few)
       ]
 
-  blank_from : (k : ℕ) → min s.count n ≤ k → is_blank_row (get_or (truncated n s).rows k blank_row) ≡ true
+  blank_from : (k : ℕ) → min s.count n ≤ k → is_blank_row (get_or (truncated n s index).rows k blank_row) ≡ true
   blank_from k past =
       let more = length s.rows - min s.count n in
       ap is_blank_row (get_or-append_right (take (min s.count n) s.rows) (replicate more blank_row) (min s.count n) k blank_row front_long past ∙ blank_slots more (k - min s.count n))
 
-  pub truncated_sound : Sound (truncated n s)
-  truncated_sound = (
+  pub truncated_sound : IndexOf (take n (in_use s)) index → Sound (truncated n s index)
+  truncated_sound indexed = (
     simp (length-append, length-replicate) (omega (arith, front_long, sound.0, sound.1)),
     omega (arith, sound.1),
     blank_from,
     subst LengthsKept (sym truncated_rows) (lengths_taken n (in_use s) sound.3),
+    subst (λ rs. IndexOf rs index) (sym truncated_rows) indexed,
+    subst Distinct (sym truncated_rows) (distinct_taken n (in_use s) sound.5),
   )
 
 -- the row of a known number

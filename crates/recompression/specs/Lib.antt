@@ -1,4 +1,5 @@
 -- What a table of rows holds, and what its methods answer and leave.
+pub mod Buckets
 pub mod Tables
 pub mod Contents
 pub mod InPlace

@@ -5,7 +5,9 @@ use Rattle.rows.specs.declared.Shape.TheVariants.{Leaf, Pair, Repeat}
 use Rattle.rows.specs.declared.Row.{Row}
 use Rattle.rows.specs.Filing.{blank_row, row_of}
 use Rattle.rows.specs.Strips.{strip}
+use Rattle.recompression.specs.declared.index.Index.{Index}
 use Rattle.recompression.specs.declared.slots.Slots.{Slots}
+use Rattle.recompression.specs.Buckets.{IndexOf, Distinct}
 
 -- the rows in use
 abbrev pub in_use : Slots → List Row
@@ -25,18 +27,21 @@ is_blank_row row = is_blank_shape row.shape && row.length == 0 && row.round == 0
 abbrev pub LengthsKept : List Row → Type 0
 LengthsKept rows = (n : ℕ) → (row_of rows n).length ≡ min 65535 (length (strip rows n))
 
--- there are 1,024 slots, those after the rows in use are blank, and the rows in use keep their lengths
+-- there are 1,024 slots, those after the rows in use are blank, and the rows in use keep their lengths, are indexed
+-- and are all of different shapes
 abbrev pub Sound : Slots → Type 0
 Sound s =
     (length s.rows ≡ 1024)
     × (s.count ≤ 1024)
     × ((k : ℕ) → s.count ≤ k → is_blank_row (slice_index_or s.rows k blank_row) ≡ true)
     × LengthsKept (in_use s)
+    × IndexOf (in_use s) s.index
+    × Distinct (in_use s)
 
--- slots with a row put after those in use
-abbrev pub appended : Slots → Row → Slots
-appended s row = record { rows = slice_set s.rows s.count row; count = s.count + 1 }
+-- slots with a row put after those in use, and the index that they then have
+abbrev pub appended : Slots → Row → Index → Slots
+appended s row index = record { rows = slice_set s.rows s.count row; index = index; count = s.count + 1 }
 
--- slots with at most the first n rows in use, and those after them made blank
-abbrev pub truncated : ℕ → Slots → Slots
-truncated n s = record { rows = take (min s.count n) s.rows ++ replicate (length s.rows - min s.count n) blank_row; count = min s.count n }
+-- slots with at most the first n rows in use, and those after them made blank, and the index that they then have
+abbrev pub truncated : ℕ → Slots → Index → Slots
+truncated n s index = record { index = index; rows = take (min s.count n) s.rows ++ replicate (length s.rows - min s.count n) blank_row; count = min s.count n }

@@ -3,6 +3,7 @@
 // any place on. A table has room for 1,024 rows, and a string of 65,535 numbers at most is settled.
 #![tactic(auto)]
 
+pub mod index;
 pub mod slots;
 pub mod table;
 

@@ -1,15 +1,18 @@
 // The slots of a table: plain data, with no invariant, since the table around them has one that says more.
-ghost use Rattle.std.specs.Prelude.{◌≡◌, ◌<◌, ◌≤◌, replicate, position};
-ghost use Rattle.rows.specs.Filing.{blank_row, alike};
+ghost use Rattle.std.specs.Prelude.{◌≡◌, ◌<◌, ◌≤◌, [], ◌∷◌, ◌++◌, take, replicate};
+ghost use Rattle.rows.specs.Filing.{blank_row, find};
+ghost use Rattle.recompression.specs.Buckets.{Distinct, IndexOf};
 ghost use Rattle.recompression.specs.Tables.{in_use, appended, truncated};
 
+use crate::index::Index;
 use rows::{BLANK, MAX_ROWS, Row, Shape};
 
-// Rows, of which the first `count` are in use. The memory is fixed, so that it is an array with a count and no
-// list that grows.
+// Rows, of which the first `count` are in use, and their index. The memory is fixed, so that it is an array with a
+// count and no list that grows.
 #[derive(Drop)]
 pub struct Slots {
     rows: [Row; MAX_ROWS],
+    index: Index,
     pub(crate) count: usize,
 }
 
@@ -18,18 +21,23 @@ impl Slots {
     pub(crate) fn new() -> Slots
         ensures rows { result.rows ≡ replicate 1024 blank_row }
         ensures count { result.count ≡ 0 }
+        ensures index { IndexOf [] result.index }
     {
         Slots {
             rows: [BLANK; MAX_ROWS],
+            index: Index::new(),
             count: 0,
         }
     }
 
     // Puts a row after those in use.
     pub(crate) fn append(&mut self, row: Row)
-        requires { self.old.count < 1024 }
-        ensures { self.new ≡ appended self.old row }
+        requires room { self.old.count < 1024 }
+        requires indexed { IndexOf (in_use self.old) self.old.index }
+        ensures slots { self.new ≡ appended self.old row self.new.index }
+        ensures indexed { IndexOf (in_use self.old ++ (row ∷ [])) self.new.index }
     {
+        self.index.add(&self.rows[..self.count], row);
         self.rows[self.count] = row;
         self.count += 1;
     }
@@ -42,19 +50,24 @@ impl Slots {
         &self.rows[..self.count]
     }
 
-    // The place of the first row of that shape.
-    pub(crate) fn first_of(&self, shape: Shape) -> Option<usize>
-        requires { self.now.count ≤ 1024 }
-        ensures { result ≡ position (λ row. alike row.shape shape) (in_use self.now) }
+    // The number of the first row of that shape.
+    pub(crate) fn find(&self, shape: Shape) -> Option<u16>
+        requires few { self.now.count ≤ 1024 }
+        requires indexed { IndexOf (in_use self.now) self.now.index }
+        requires distinct { Distinct (in_use self.now) }
+        ensures { result ≡ find (in_use self.now) shape }
     {
-        self.in_use().iter().position(|row| row.shape == shape)
+        self.index.find(self.in_use(), shape)
     }
 
     // Makes the slots after the first `count` blank.
     pub(crate) fn truncate(&mut self, count: usize)
-        requires { self.old.count ≤ 1024 }
-        ensures { self.new ≡ truncated count self.old }
+        requires few { self.old.count ≤ 1024 }
+        requires indexed { IndexOf (in_use self.old) self.old.index }
+        ensures slots { self.new ≡ truncated count self.old self.new.index }
+        ensures indexed { IndexOf (take count (in_use self.old)) self.new.index }
     {
+        self.index.truncate(&self.rows[..self.count], count);
         self.count = self.count.min(count);
         self.rows[self.count..].fill(BLANK);
     }

@@ -1,4 +1,5 @@
-// A table of rows: those in use keep the lengths of their strips, and the slots after them are blank.
+// A table of rows: those in use keep the lengths of their strips, no two of them are alike, and the slots after them
+// are blank.
 ghost use Rattle.recompression.specs.Tables.{Sound};
 
 use crate::slots::Slots;

@@ -8,12 +8,10 @@ use rows::{MAX_CELLS, MAX_ROWS, Row, Shape};
 
 impl Table {
     // The number of the first row of that shape.
-    #[tactic(auto, using(crate::proofs::FileFacts::find_place))]
     pub fn find(&self, shape: Shape) -> Option<u16>
         ensures { result ≡ find (rows_in self.now) shape }
     {
-        // The checker proves that it fits; `try_from` would have an error that never comes.
-        self.slots.first_of(shape).map(|index| index as u16 + 1)
+        self.slots.find(shape)
     }
 
     // The length that a row of that shape keeps, from the lengths that its parts keep.
@@ -29,9 +27,10 @@ impl Table {
         whole.min(MAX_CELLS as u32) as u16
     }
 
-    // A row of that shape put after the others, made in that round, and its number; none where all slots are
-    // in use.
+    // A row of a shape that no row has, put after the others, made in that round, and its number; none where all
+    // slots are in use.
     fn add(&mut self, round: u32, shape: Shape) -> Option<u16>
+        requires { find (rows_in self.old) shape ≡ None }
         ensures { FilesAs (rows_in self.old) (numbered round (rows_in self.old) shape None) result (rows_in self.new) }
     {
         let count = self.slots.count;

@@ -6,4 +6,7 @@ use Rattle.recompression.proofs.table.Table.truncate.Goals as goal
 
 pub invariant_of-self : goal.invariant_of-self
 invariant_of-self c =
-    record { sound = subst Sound (sym c.truncate.ensures) (truncated_sound c.args.count c.args.self.now.slots c.args.self.now.sound) }
+    let is = c.truncate.ensures.slots in
+    record {
+      sound = subst Sound (sym is) (truncated_sound c.args.count c.args.self.now.slots c.truncate.new.self.index c.args.self.now.sound c.truncate.ensures.indexed);
+    }
