@@ -1,9 +1,9 @@
 """Lists the places in src/ that today's forms may say better, a point at a time.
 
-    python3 tools/places.py [POINT] [FOLDER]
+    python3 tools/history/places.py [POINT] [FOLDER]
 
 FOLDER is the repository's top (this one). For each point it prints the lines to look at and how many there are;
-docs/DESIGN-PASS.md says what became of them. A line is a place to look at, not a fault.
+docs/history/DESIGN-PASS.md says what became of them. A line is a place to look at, not a fault.
 """
 import itertools
 import pathlib
@@ -126,7 +126,7 @@ POINTS = {
 def main():
     chosen = [word for word in sys.argv[1:] if word in POINTS] or list(POINTS)
     folders = [word for word in sys.argv[1:] if word not in POINTS]
-    top = pathlib.Path(folders[0] if folders else pathlib.Path(__file__).resolve().parent.parent)
+    top = pathlib.Path(folders[0] if folders else pathlib.Path(__file__).resolve().parents[2])
     for point in chosen:
         found = list(POINTS[point](top))
         print(f"point {point}: {len(found)}")

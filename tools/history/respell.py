@@ -3,7 +3,7 @@
 snake case, facts and types in camel case. Names that the check makes (`returns-in_None`) and names that are brought in
 from the library keep their dashes.
 
-    python3 tools/respell.py [--list] [FOLDER]     turns crates/ and the code spans of README.md and docs/ below FOLDER
+    python3 tools/history/respell.py [--list] [FOLDER]     turns crates/ and the code spans of README.md and docs/ below FOLDER
 
 It goes by text. With --list nothing is written: it prints each name with its new spelling. A name whose new spelling a
 file has already for something else, as a function that is called like the definition in its contract, is printed as
