@@ -12,7 +12,7 @@ use cells::Glyph;
 use keepers::Keeper;
 use periodicity::Fragment;
 use questions::places;
-use shelf::shelf::Shelf;
+use shelf::Shelf;
 use shelf_strip::ShelfStrip;
 use std::alloc::{AllocError, Global};
 

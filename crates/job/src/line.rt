@@ -6,7 +6,7 @@ ghost use Rattle.job.specs.Lines.{told_in, answer_shown, line_text, line_bytes};
 
 use ask::Found;
 use periodicity::Progression;
-use shelf::request::Answer;
+use shelf::Answer;
 use std::alloc::{AllocError, Global};
 use std::fmt;
 

@@ -6,7 +6,7 @@ ghost use Rattle.ask.specs.Answers.{reply_of, reply_to, seen_through};
 use ask::{Answer, Asking, Layers, Question, Through};
 use cells::Glyph;
 use keepers::{Keeper, LooseStrip};
-use shelf::shelf::Shelf;
+use shelf::Shelf;
 use shelf_strip::ShelfStrip;
 use std::alloc::{AllocError, Global};
 

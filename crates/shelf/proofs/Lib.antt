@@ -1,10 +1,10 @@
 mod RowFacts
 mod LeafLoop
 mod Settlings
-mod Taking
+mod TakeFacts
 mod CellLoop
 mod Expanding
-mod Joining
+mod JoinFacts
 mod SendLoop
 mod Histories
 mod Beginning

@@ -3,7 +3,7 @@ use Rattle.std.specs.Prelude.{ℕ, cond, List, length, Some, None, Option, nat_l
 use Rattle.rows.specs.declared.Row.{Row}
 use Rattle.rows.specs.Strips.{strip}
 use Rattle.recompression.specs.Contents.{rows_in}
-use Rattle.shelf.specs.declared.shelf.Shelf.{Shelf}
+use Rattle.shelf.specs.declared.Shelf.{Shelf}
 
 -- the number of the kind of its cells
 abbrev pub kind_of : Shelf → ℕ

@@ -1,9 +1,33 @@
-// The shelf: strips of cells filed under numbers, so that one strip has one number and one number has one
-// strip, over any history of takes, joins, cuts and refusals.
+//! The shelf: strips of cells filed under numbers, so that one strip has one number and one number has one
+//! strip, over any history of takes, joins, cuts and refusals.
 #![tactic(auto)]
 
+ghost use Rattle.recompression.specs.Contents.{rows_in};
+ghost use Rattle.rows.specs.Lawful.{Lawful};
+
+mod cutting;
+mod joining;
+mod leaves;
 mod printable;
-pub mod refusal;
-pub mod request;
-pub mod shelf;
+mod reading;
+mod refusal;
+mod request;
+mod sending;
+mod taking;
 mod work;
+mod writing;
+
+use recompression::table::Table;
+pub use refusal::Refusal;
+pub use request::{Answer, Request, Sent};
+
+/// Rows in use that keep what every shelf promises, and the number of their kind of cell.
+///
+/// Calls that take or give cells say of which kind they are; the shelf knows the kind by its number alone, as the file
+/// of a shelf does.
+#[derive(Drop)]
+pub struct Shelf {
+    table: Table,
+    kind: u8,
+    ghost lawful: { Lawful (rows_in table) },
+}

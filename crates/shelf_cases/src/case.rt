@@ -4,7 +4,7 @@ use crate::spelling::{OrNone, Spelled, Told, Whole, number, spell_cells, word};
 use anyhow::anyhow;
 use cells::{CellKind, Day, Glyph};
 use rows::{MAX_ROWS, Row, Shape};
-use shelf::shelf::Shelf;
+use shelf::Shelf;
 use std::alloc::{AllocError, Global};
 
 // The shelf that cases ask, and the memory that their texts are made in.

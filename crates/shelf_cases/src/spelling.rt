@@ -1,7 +1,7 @@
 // How cells, answers and the numbers of a case are spelled.
 use cells::{CellKind, Day, Glyph};
 use rows::{Row, Shape};
-use shelf::refusal::Refusal;
+use shelf::Refusal;
 use std::alloc::{AllocError, Global};
 use std::error::Error;
 use std::fmt;

@@ -2,7 +2,7 @@
 use Rattle.std.specs.Prelude.{ℕ, List}
 use Rattle.keepers.specs.Shortness.{AllShort}
 use Rattle.rows.specs.Strips.{strip}
-use Rattle.shelf.specs.declared.shelf.Shelf.{Shelf}
+use Rattle.shelf.specs.declared.Shelf.{Shelf}
 use Rattle.shelf.specs.Contents.{rows_on}
 use Rattle.shelf_strip.specs.declared.strip.ShelfStrip.{ShelfStrip}
 

@@ -7,7 +7,7 @@ ghost use Rattle.shelf_strip.specs.Sides.{first_of, second_of};
 use crate::length::strip_length;
 use keepers::Side;
 use rows::Shape;
-use shelf::shelf::Shelf;
+use shelf::Shelf;
 
 // A place in copies of a number's strip that stand side by side, seen from one side: `place` codes of the
 // first copy are passed, and the next `reach` codes, at least the rest of that copy, belong to the copies.

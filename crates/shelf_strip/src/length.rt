@@ -3,7 +3,7 @@ ghost use Rattle.std.specs.Prelude.{◌≡◌, length};
 ghost use Rattle.rows.specs.Strips.{strip};
 ghost use Rattle.shelf.specs.Contents.{rows_on};
 
-use shelf::shelf::Shelf;
+use shelf::Shelf;
 
 // A number that is not known stands for the empty strip.
 #[tactic(auto, using(crate::proofs::LengthFacts::length_or_none))]

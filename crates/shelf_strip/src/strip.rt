@@ -9,7 +9,7 @@ ghost use Rattle.shelf_strip.specs.Sides.{seen};
 use crate::cursor::{Cursor, View};
 use crate::length::strip_length;
 use keepers::{Keeper, Side};
-use shelf::shelf::Shelf;
+use shelf::Shelf;
 
 // The shelf, shared, and a number. A number that is not known stands for the empty strip.
 #[derive(Clone, Copy)]

@@ -8,7 +8,7 @@ use anyhow::anyhow;
 use cells::Glyph;
 use keepers::{Keeper, Side};
 use pattern::Pattern;
-use shelf::shelf::Shelf;
+use shelf::Shelf;
 use shelf_strip::ShelfStrip;
 
 // The places that every other place is compared with; the same, counted from the end, behind.

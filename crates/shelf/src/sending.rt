@@ -6,8 +6,8 @@ ghost use Rattle.shelf.specs.Contents.{kind_of, rows_on};
 ghost use Rattle.shelf.specs.Refusals.{told, ComesTo};
 ghost use Rattle.shelf.specs.Sending.{Begun, SentTo, call_of, calls_sent};
 
+use crate::Shelf;
 use crate::request::{Answer, Request, Sent};
-use crate::shelf::Shelf;
 use crate::work::WorkArea;
 use cells::CellKind;
 

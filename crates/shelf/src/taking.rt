@@ -6,15 +6,15 @@ ghost use Rattle.shelf.specs.Contents.{kind_of, rows_on};
 ghost use Rattle.shelf.specs.Refusals.{ComesTo};
 ghost use Rattle.shelf.specs.WritingOut.{WrittenBack};
 
+use crate::Shelf;
 use crate::printable::Printable;
 use crate::refusal::Refusal;
-use crate::shelf::Shelf;
 use crate::work::WorkArea;
 use cells::CellKind;
 
 impl Shelf {
     // Whether its cells are of this kind.
-    pub(super) fn is_of_kind<K: CellKind>(&self) -> bool
+    pub(crate) fn is_of_kind<K: CellKind>(&self) -> bool
         ensures { result ≡ (kind_of self.now == K.NUMBER) }
     {
         self.kind == K::NUMBER

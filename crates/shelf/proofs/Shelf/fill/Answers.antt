@@ -3,7 +3,7 @@ use Rattle.rows.proofs.LawfulFacts.{strip_short}
 use Rattle.rows.specs.Strips.{strip}
 use Rattle.shelf.specs.Contents.{rows_on}
 use Rattle.shelf.proofs.CellLoop.{code_inside, filled_more}
-use Rattle.shelf.proofs.shelf.Shelf.fill.Goals as goal
+use Rattle.shelf.proofs.Shelf.fill.Goals as goal
 
 pub overflow_add-start : goal.overflow_add-start
 overflow_add-start g c =

@@ -5,8 +5,8 @@ ghost use Rattle.rows.specs.Strips.{strip};
 ghost use Rattle.shelf.specs.Contents.{kind_of, rows_on};
 ghost use Rattle.shelf.specs.WritingOut.{refusal_of, writing_check, cells_after};
 
+use crate::Shelf;
 use crate::refusal::Refusal;
-use crate::shelf::Shelf;
 use cells::CellKind;
 use periodicity::Fragment;
 

@@ -8,9 +8,9 @@ use Rattle.recompression.specs.Expansions.{written_out}
 use Rattle.rows.specs.Lawful.{Lawful}
 use Rattle.shelf.specs.Contents.{rows_on}
 use Rattle.shelf.specs.declared.refusal.Refusal.TheVariants.{UnknownNumber}
-use Rattle.shelf.proofs.Joining.{unknown_cut, leaving_cut, small_work_cut, settled_cut}
+use Rattle.shelf.proofs.JoinFacts.{unknown_cut, leaving_cut, small_work_cut, settled_cut}
 use Rattle.shelf.proofs.RowFacts.{known_told, unknown_told}
-use Rattle.shelf.proofs.shelf.Shelf.cut_on.Goals as goal
+use Rattle.shelf.proofs.Shelf.cut_on.Goals as goal
 
 pub returns-in_err-whole-clause-writes : goal.returns-in_err-whole-clause-writes
 returns-in_err-whole-clause-writes c =

@@ -1,7 +1,7 @@
 use Rattle.std.proofs.Common.{length, ◌∙◌, arith}
 use Rattle.shelf.specs.Contents.{rows_on}
 use Rattle.shelf.proofs.SendLoop.{performed_more}
-use Rattle.shelf.proofs.shelf.Shelf.send_all.Goals as goal
+use Rattle.shelf.proofs.Shelf.send_all.Goals as goal
 
 pub loop-i-preserved : goal.loop-i-preserved
 loop-i-preserved g c =

@@ -5,7 +5,7 @@ use Rattle.book.proofs.TurnFacts.{taken_told}
 use Rattle.book.proofs.CallFacts.{written_back}
 use Rattle.shelf.specs.Contents.{rows_on}
 use Rattle.shelf.proofs.Settlings.{back_from}
-use Rattle.shelf.proofs.shelf.Shelf.take.Goals as goal
+use Rattle.shelf.proofs.Shelf.take.Goals as goal
 
 pub returns-clause-kept : goal.returns-clause-kept
 returns-clause-kept g c =

@@ -4,9 +4,9 @@ ghost use Rattle.book.specs.Calls.{cut_out, part_of};
 ghost use Rattle.shelf.specs.Contents.{kind_of, rows_on};
 ghost use Rattle.shelf.specs.Refusals.{ComesTo, KindKept, StaysWritten, Writes};
 
+use crate::Shelf;
+use crate::leaves::{expand_part, settle_leaves};
 use crate::refusal::Refusal;
-use crate::shelf::Shelf;
-use crate::shelf::joining::{expand_part, settle_leaves};
 use crate::work::WorkArea;
 use periodicity::Fragment;
 

@@ -8,7 +8,7 @@ use Rattle.shelf.specs.Contents.{rows_on}
 use Rattle.shelf.specs.Refusals.{told}
 use Rattle.shelf.specs.Sending.{calls_sent}
 use Rattle.shelf.proofs.Histories.{goes_on}
-use Rattle.shelf.proofs.shelf.Shelf.send.Goals as goal
+use Rattle.shelf.proofs.Shelf.send.Goals as goal
 
 pub returns-clause-sent : goal.returns-clause-sent
 returns-clause-sent g c =

@@ -1,35 +1,19 @@
 // Joining: the number that two strips, one after the other, come to.
 ghost use Rattle.std.specs.Prelude.{◌≡◌, ◌+◌, ◌≤◌, ◌++◌, length, replicate};
-ghost use Rattle.book.specs.Calls.{settling, joined_up};
+ghost use Rattle.book.specs.Calls.{joined_up};
 ghost use Rattle.recompression.specs.Contents.{rows_in};
 ghost use Rattle.recompression.specs.Expansions.{written_out};
-ghost use Rattle.recompression.specs.Settlements.{all_rounds};
 ghost use Rattle.rows.specs.Filing.{row_of};
 ghost use Rattle.rows.specs.Strips.{strip};
 ghost use Rattle.shelf.specs.Contents.{kind_of, rows_on};
 ghost use Rattle.shelf.specs.Refusals.{ComesTo, KindKept, StaysWritten, Writes};
 
+use crate::Shelf;
+use crate::leaves::{expand_part, settle_leaves};
 use crate::refusal::Refusal;
-use crate::shelf::Shelf;
 use crate::work::WorkArea;
 use recompression::table::Table;
 use rows::MAX_CELLS;
-
-// The number of a string of leaf numbers, which gets its rows.
-pub(super) fn settle_leaves(table: &mut Table, numbers: &mut [u16]) -> Result<u16, Refusal>
-    requires { length numbers.old ≤ 65535 }
-    ensures { ComesTo result (rows_in table.new) (settling (rows_in table.old) (all_rounds (rows_in table.old) numbers.old)) }
-{
-    Ok(table.settle(numbers)?)
-}
-
-// Writes the leaf numbers of a part of a strip that is known to have it.
-pub(super) fn expand_part(table: &Table, number: u16, start: usize, out: &mut [u16])
-    requires { start + length out.old ≤ (row_of (rows_in table.now) number).length }
-    ensures { out.new ≡ written_out (rows_in table.now) number start (length out.old) }
-{
-    table.expand(number, start, out).unwrap();
-}
 
 // Writes the leaf numbers of two strips, one after the other.
 fn expand_both(table: &Table, left: u16, right: u16, numbers: &mut [u16])

@@ -1,7 +1,7 @@
 use Rattle.std.proofs.Common.{◌≡◌, length}
 use Rattle.shelf.specs.Contents.{rows_on}
 use Rattle.shelf.proofs.SendLoop.{Performed}
-use Rattle.shelf.proofs.shelf.Shelf.send_all.Given as goal
+use Rattle.shelf.proofs.Shelf.send_all.Given as goal
 
 abbrev pub invariant-loop-i : goal.invariant-loop-i
 invariant-loop-i g l =

@@ -6,9 +6,9 @@ use Rattle.recompression.specs.Contents.{rows_in}
 use Rattle.rows.specs.Lawful.{Lawful}
 use Rattle.shelf.specs.Contents.{rows_on}
 use Rattle.shelf.specs.declared.refusal.Refusal.TheVariants.{UnknownNumber}
-use Rattle.shelf.proofs.Joining.{join_unknown, join_too_long, join_small_work, join_settled}
+use Rattle.shelf.proofs.JoinFacts.{join_unknown, join_too_long, join_small_work, join_settled}
 use Rattle.shelf.proofs.RowFacts.{known_told, unknown_told}
-use Rattle.shelf.proofs.shelf.Shelf.join_on.Goals as goal
+use Rattle.shelf.proofs.Shelf.join_on.Goals as goal
 
 pub returns-in_err-left_length-clause-writes : goal.returns-in_err-left_length-clause-writes
 returns-in_err-left_length-clause-writes c =

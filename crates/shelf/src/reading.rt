@@ -3,7 +3,7 @@ ghost use Rattle.std.specs.Prelude.{◌≡◌, [], length};
 ghost use Rattle.recompression.specs.Contents.{row_at};
 ghost use Rattle.shelf.specs.Contents.{kind_of, rows_on, length_at, code_at};
 
-use crate::shelf::Shelf;
+use crate::Shelf;
 use cells::CellKind;
 use recompression::table::Table;
 use rows::Row;

@@ -6,8 +6,8 @@ use Rattle.rows.specs.Lawful.{Lawful}
 use Rattle.shelf.specs.Contents.{rows_on}
 use Rattle.shelf.specs.declared.refusal.Refusal.TheVariants.{OtherKind}
 use Rattle.shelf.proofs.Settlings.{comes_refused}
-use Rattle.shelf.proofs.Taking.{comes_unfit, comes_fit}
-use Rattle.shelf.proofs.shelf.Shelf.take_on.Goals as goal
+use Rattle.shelf.proofs.TakeFacts.{comes_unfit, comes_fit}
+use Rattle.shelf.proofs.Shelf.take_on.Goals as goal
 
 pub returns-then-not-is_of_kind-clause-outcome : goal.returns-then-not-is_of_kind-clause-outcome
 returns-then-not-is_of_kind-clause-outcome g c =
