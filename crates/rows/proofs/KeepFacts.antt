@@ -6,13 +6,14 @@ use Rattle.std.specs.List.{AllByRecursion}
 use Rattle.rows.specs.declared.Shape.{Shape}
 use Rattle.rows.specs.declared.Shape.TheVariants.{Leaf, Pair, Repeat}
 use Rattle.rows.specs.declared.Row.{Row}
+use Rattle.rows.specs.Blocks.{symbols, spelled, InRound}
 use Rattle.rows.specs.Filing.{find}
-use Rattle.rows.specs.Laws.{AllInUse, symbols, spelled}
+use Rattle.rows.specs.Laws.{AllInUse}
 use Rattle.rows.specs.Rounds.{Block, one, new, blocks, leaf_block}
 use Rattle.rows.specs.Strips.{times, strip, expanded}
 use Rattle.rows.proofs.FilingFacts.{find_known}
 use Rattle.rows.proofs.NamingFacts.{Named}
-use Rattle.rows.proofs.Parsing.{InRound, spelled_blocks, block_kinds}
+use Rattle.rows.proofs.Parsing.{spelled_blocks, block_kinds}
 use Rattle.rows.proofs.RoundFacts.{Comes}
 use Rattle.rows.proofs.StripFacts.{Parts, shape_strip, strip_of_row, expanded_append}
 

@@ -2,6 +2,7 @@ pub mod StripFacts
 pub mod FilingFacts
 pub mod NamingFacts
 pub mod Parsing
+pub mod Seams
 pub mod Ends
 pub mod RoundFacts
 pub mod KeepFacts

@@ -1,35 +1,12 @@
 -- A round's blocks spell the string that they were read from, and any part of them is what its own string
 -- is read as. Assumes nothing.
-use Rattle.std.proofs.Common.{◌≡◌, ℕ, zero, suc, ◌+◌, ◌%◌, ◌≤◌, Bool, true, false, cond, not, eqb, ltb, List, [], ◌∷◌, ◌++◌, replicate, sym, refl, ap, ◌∙◌, subst, arith}
+use Rattle.std.proofs.Common.{◌≡◌, ℕ, zero, suc, ◌+◌, ◌%◌, ◌≤◌, ◌↔◌, true, false, not, eqb, ltb, List, [], ◌∷◌, ◌++◌, replicate, sym, refl, ap, ◌∙◌, subst, arith}
 use Rattle.std.specs.List.{AllByRecursion}
 use Rattle.std.proofs.lemmas.List.{append_assoc, replicate_more}
 use Rattle.std.proofs.lemmas.Bool.{both_ways, cond_both, cond-true, cond-false, and_parts, and_left, not-true, eqb-true, eq-eqb, ltb-true, ltb-false, le-ltb}
 use Rattle.rows.specs.declared.Shape.TheVariants.{Leaf, Pair, Repeat}
-use Rattle.rows.specs.Laws.{symbols, spelled}
+use Rattle.rows.specs.Blocks.{symbols, spelled, InRound, first_of, last_of, merges, CutUp, NoneMerge}
 use Rattle.rows.specs.Rounds.{Block, one, new, stretch, stretches_from, stretches, is_left, joins, pairs, pairs_from, blocks}
-
--- a block that round k makes: a single number, a joining pair in even rounds, a repeat in odd rounds
-abbrev pub InRound : ℕ → Block → Type 0
-InRound k (one n) = Unit {0}
-InRound k (new (Leaf code)) = ⊥
-InRound k (new (Pair left right)) = (eqb (k % 2) 1 ≡ false) × (joins k left right ≡ true)
-InRound k (new (Repeat part count)) = (eqb (k % 2) 1 ≡ true) × (2 ≤ count)
-
-abbrev pub first_of : Block → ℕ
-first_of (one n) = n
-first_of (new (Leaf code)) = 0
-first_of (new (Pair left right)) = left
-first_of (new (Repeat part count)) = part
-
-abbrev pub last_of : Block → ℕ
-last_of (one n) = n
-last_of (new (Leaf code)) = 0
-last_of (new (Pair left right)) = right
-last_of (new (Repeat part count)) = part
-
--- whether round k reads the neighbours x and y into one block
-abbrev pub merges : ℕ → ℕ → ℕ → Bool
-merges k x y = cond (eqb (k % 2) 1) (eqb y x) (joins k x y)
 
 -- the number x does not merge with the first number of the blocks after it
 abbrev pub Apart : ℕ → ℕ → List Block → Type 0
@@ -266,3 +243,25 @@ blocks_none k = blocks_spelled k [] tt
 
 pub blocks_one : (k n : ℕ) → blocks k (n ∷ []) ≡ one n ∷ []
 blocks_one k n = blocks_spelled k (one n ∷ []) (tt, tt, tt)
+
+-- blocks cut a string up exactly when they are its blocks
+parsed_from_cut : (k : ℕ) (bs : List Block) → AllByRecursion (InRound k) bs → NoneMerge k bs → Parsed k bs
+parsed_from_cut k [] formed apart = tt
+parsed_from_cut k (b ∷ []) formed apart = (formed.0, tt, tt)
+parsed_from_cut k (b ∷ (c ∷ bs)) formed apart = (
+  formed.0,
+  apart [] bs b c refl,
+  parsed_from_cut k (c ∷ bs) formed.1 (λ before after x y e. apart (b ∷ before) after x y (ap (λ cs. b ∷ cs) e)),
+)
+
+none_merge : (k : ℕ) (bs : List Block) → Parsed k bs → NoneMerge k bs
+none_merge k bs p before after a b e = (parsed_after k before (a ∷ b ∷ after) (subst (Parsed k) e p)).1
+
+blocks_cut : (k : ℕ) (s : List ℕ) → CutUp k s (blocks k s)
+blocks_cut k s = record { spells = spelled_blocks k s; formed = block_kinds k s; apart = none_merge k (blocks k s) (parsed_blocks k s) }
+
+pub blocks_cut_up : (k : ℕ) (s : List ℕ) (bs : List Block) → CutUp k s bs ↔ (bs ≡ blocks k s)
+blocks_cut_up k s bs = (
+  λ cut. sym (blocks_spelled k bs (parsed_from_cut k bs cut.formed cut.apart)) ∙ ap (blocks k) cut.spells,
+  λ are. subst (CutUp k s) (sym are) (blocks_cut k s),
+)

@@ -4,7 +4,8 @@ use Rattle.std.proofs.Common.{◌≡◌, ℕ, Option, zero, suc, ◌+◌, ◌-�
 use Rattle.std.proofs.lemmas.Bool.{cases_lt, cases_eq}
 use Rattle.std.specs.List.{AllByRecursion}
 use Rattle.rows.specs.declared.Row.{Row}
-use Rattle.rows.specs.Laws.{AllInUse, symbols, spelled, after_rounds}
+use Rattle.rows.specs.Blocks.{symbols, spelled}
+use Rattle.rows.specs.Laws.{AllInUse, after_rounds}
 use Rattle.rows.specs.Rounds.{Block, one, new, blocks, Filed, then, round, Settled, settled, rounds_from, leaf_block}
 use Rattle.rows.proofs.Ends.{blocks_shorter, blocks_unshortened, some_round_shortens}
 use Rattle.rows.proofs.FilingFacts.{find_known}

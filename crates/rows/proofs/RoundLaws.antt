@@ -3,15 +3,16 @@
 use Rattle.std.proofs.Common.{◌≡◌, ℕ, ◌<◌, ◌≤◌, List, [], ◌∷◌, ◌++◌, map, length, Some, sym, refl, ap, ◌∙◌, subst}
 use Rattle.std.specs.List.{AllByRecursion}
 use Rattle.rows.specs.declared.Row.{Row}
+use Rattle.rows.specs.Blocks.{symbols, spelled, InRound}
 use Rattle.rows.specs.Filing.{row_made}
-use Rattle.rows.specs.Laws.{AllInUse, symbols, spelled, after_rounds, IsFragment}
+use Rattle.rows.specs.Laws.{AllInUse, after_rounds, IsFragment}
 use Rattle.rows.specs.Lawful.{Lawful}
 use Rattle.rows.specs.Rounds.{Block, one, new, blocks, Filed, round, leaf_block}
 use Rattle.rows.specs.Strips.{strip, expanded}
 use Rattle.rows.proofs.KeepFacts.{round_keeps, comes_keeps, leaves_keep, leaves_known, leaves_split}
 use Rattle.rows.proofs.LawfulFacts.{lawful_parts}
 use Rattle.rows.proofs.NamingFacts.{Named, file_all_grows}
-use Rattle.rows.proofs.Parsing.{InRound, spelled_blocks, block_kinds}
+use Rattle.rows.proofs.Parsing.{spelled_blocks, block_kinds}
 use Rattle.rows.proofs.RoundFacts.{Comes, comes_after, comes_known, fragment_comes, all_split}
 use Rattle.rows.proofs.SettleFacts.{parts_one_more, shape_parts, known_append, Addable, filing_keeps, after_stands}
 use Rattle.rows.proofs.StripFacts.{Parts, strip_append, expanded_append}

@@ -8,8 +8,9 @@ use Rattle.std.specs.List.{AllByRecursion}
 use Rattle.rows.specs.declared.Shape.{Shape}
 use Rattle.rows.specs.declared.Shape.TheVariants.{Leaf, Pair, Repeat}
 use Rattle.rows.specs.declared.Row.{Row}
+use Rattle.rows.specs.Blocks.{symbols, spelled, InRound}
 use Rattle.rows.specs.Filing.{find, row_of, shape_length, row_made, file}
-use Rattle.rows.specs.Laws.{AllInUse, symbols, spelled, after_rounds}
+use Rattle.rows.specs.Laws.{AllInUse, after_rounds}
 use Rattle.rows.specs.Lawful.{parts_below, lawful_row, Lawful}
 use Rattle.rows.specs.Rounds.{Block, one, new, blocks, Filed, then, with_number, file_all, round, Settled, settled, rounds_from, leaf_block, enough_rounds, settle, number_left}
 use Rattle.rows.specs.Strips.{times, strip, expanded}
@@ -17,7 +18,7 @@ use Rattle.rows.proofs.FilingFacts.{find_added, file_grows}
 use Rattle.rows.proofs.KeepFacts.{shape_expanded, comes_keeps, leaves_keep, leaves_known, leaves_split}
 use Rattle.rows.proofs.LawfulFacts.{RowLawful, test_from_row, row_lawful_append, row_lawful, lawful_parts}
 use Rattle.rows.proofs.NamingFacts.{Named, named_append, length_named, file_named, file_all_grows, then_some, rounds_step, settle_parts, settles_by_rounds, settle_grows}
-use Rattle.rows.proofs.Parsing.{InRound, spelled_append, spelled_blocks, blocks_part, block_kinds}
+use Rattle.rows.proofs.Parsing.{spelled_append, spelled_blocks, blocks_part, block_kinds}
 use Rattle.rows.proofs.RoundFacts.{Comes, comes_append, comes_known, comes_settle, fragment_comes, rounds_few, comes_shorter}
 use Rattle.rows.proofs.StripFacts.{Parts, shape_strip, strip_added, written_strip, shape_strip_append, row_added, row_append, strip_none, expanded_one}
 

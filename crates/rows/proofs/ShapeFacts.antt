@@ -6,11 +6,12 @@ use Rattle.std.specs.List.{AllByRecursion}
 use Rattle.rows.specs.declared.Shape.{Shape}
 use Rattle.rows.specs.declared.Shape.TheVariants.{Leaf, Pair, Repeat}
 use Rattle.rows.specs.declared.Row.{Row}
+use Rattle.rows.specs.Blocks.{InRound}
 use Rattle.rows.specs.Filing.{file}
 use Rattle.rows.specs.Rounds.{Block, one, new, blocks, Filed, then, with_number, file_all, Settled, settled, rounds_from, leaf_block, enough_rounds, settle}
 use Rattle.rows.proofs.FilingFacts.{file_grows}
 use Rattle.rows.proofs.NamingFacts.{then_some, rounds_step, settle_parts}
-use Rattle.rows.proofs.Parsing.{InRound, block_kinds}
+use Rattle.rows.proofs.Parsing.{block_kinds}
 
 module _ (P : Shape → Type 0) where
   abbrev pub Shapes : List Row → Type 0

@@ -1,10 +1,9 @@
 -- The laws of the rounds, each in one statement. Assumes nothing.
-use Rattle.std.specs.Prelude.{◌≡◌, ℕ, zero, suc, ◌<◌, ◌≤◌, List, [], ◌∷◌, ◌++◌, length, replicate, Some, Option}
-use Rattle.std.specs.List.{flat_map, AllByRecursion}
-use Rattle.rows.specs.declared.Shape.TheVariants.{Leaf, Pair, Repeat}
+use Rattle.std.specs.Prelude.{◌≡◌, ℕ, zero, suc, ◌<◌, ◌≤◌, List, ◌++◌, length, Some, Option}
+use Rattle.std.specs.List.{AllByRecursion}
 use Rattle.rows.specs.declared.Row.{Row}
 use Rattle.rows.specs.Lawful.{Lawful}
-use Rattle.rows.specs.Rounds.{Block, one, new, blocks, Filed, then, round, Settled, rounds_from, leaves, settle, number_left}
+use Rattle.rows.specs.Rounds.{Filed, then, round, Settled, rounds_from, leaves, settle, number_left}
 use Rattle.rows.specs.Strips.{strip, expanded}
 
 -- what holds of every strip of at most 65,535 codes that lawful rows settle
@@ -56,26 +55,6 @@ RoundKeepsStrip = (k : ℕ) (f g : Filed) → Lawful f.rows → AllInUse f.rows 
 abbrev pub RoundsShorten : Type 0
 RoundsShorten = (k : ℕ) (f : Filed) (s : Settled) → length f.rows ≤ 1024 → AllInUse f.rows f.numbers → 2 ≤ length f.numbers
     → rounds_from 44 k f ≡ Some s → length s.numbers < length f.numbers
-
--- the numbers that a block was read from
-abbrev pub symbols : Block → List ℕ
-symbols (one n) = n ∷ []
-symbols (new (Leaf code)) = []
-symbols (new (Pair left right)) = left ∷ right ∷ []
-symbols (new (Repeat part count)) = replicate count part
-
--- the string that blocks were read from
-abbrev pub spelled : List Block → List ℕ
-spelled bs = flat_map symbols bs
-
--- a string is cut up into its blocks
-abbrev pub BlocksSpell : Type 0
-BlocksSpell = (k : ℕ) (numbers : List ℕ) → spelled (blocks k numbers) ≡ numbers
-
--- and blocks that stand side by side are those of their own numbers alone
-abbrev pub BlocksLocal : Type 0
-BlocksLocal = (k : ℕ) (numbers : List ℕ) (before middle after : List Block) → blocks k numbers ≡ before ++ (middle ++ after)
-    → blocks k (spelled middle) ≡ middle
 
 -- what the first j rounds make of a strip: its leaves, and then rounds 1 to j
 unfoldable pub after_rounds : ℕ → List Row → List ℕ → Option Filed

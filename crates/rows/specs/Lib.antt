@@ -2,5 +2,6 @@
 pub mod Strips
 pub mod Filing
 pub mod Rounds
+pub mod Blocks
 pub mod Lawful
 pub mod Laws

@@ -3,6 +3,14 @@
 // strips that rows write, the recompression rounds, and the properties of a shelf's rows.
 #![tactic(auto)]
 
+ghost use Rattle.rows.specs.Blocks.{
+  BlocksCutUp,
+  StretchesRepeat,
+  PairsMade,
+  SeamsRead,
+  BlocksSpell,
+  BlocksLocal,
+};
 ghost use Rattle.rows.specs.Laws.{
   RoundsEnd,
   StripKept,
@@ -11,8 +19,6 @@ ghost use Rattle.rows.specs.Laws.{
   StripsStay,
   RoundKeepsStrip,
   RoundsShorten,
-  BlocksSpell,
-  BlocksLocal,
   SettlesByRounds,
   LawfulBetween,
   PartsAreFragments,
@@ -59,14 +65,25 @@ fn laws_of_rounds()
     ensures replay { Replays }
     ensures stay { StripsStay }
 
-    // What a round does, and how it cuts a string up.
+    // What a round does.
     ensures keep { RoundKeepsStrip }
     ensures shorten { RoundsShorten }
-    ensures spell { BlocksSpell }
-    ensures local { BlocksLocal }
 
     // What stands after any number of rounds.
     ensures run { SettlesByRounds }
     ensures between { LawfulBetween }
     ensures fragments { PartsAreFragments }
+{}
+
+// The laws of the blocks that a round cuts a string up into.
+fn laws_of_blocks()
+    // What the blocks are: the one list that is cut as the round's rule says, ..
+    ensures cut { BlocksCutUp }
+    ensures stretches { StretchesRepeat }
+    ensures pairs { PairsMade }
+
+    // .. and how they stand side by side.
+    ensures seam { SeamsRead }
+    ensures spell { BlocksSpell }
+    ensures local { BlocksLocal }
 {}

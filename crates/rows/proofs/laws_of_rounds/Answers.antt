@@ -2,7 +2,6 @@
 use Rattle.std.proofs.Common.{refl}
 use Rattle.rows.proofs.NamingFacts.{settle_replay, settles_by_rounds}
 use Rattle.rows.proofs.OneNumber.{settled_stands}
-use Rattle.rows.proofs.Parsing.{spelled_blocks, blocks_part}
 use Rattle.rows.proofs.RoundFacts.{rounds_shorten}
 use Rattle.rows.proofs.RoundLaws.{round_keeps_strip, lawful_between, part_is_fragment}
 use Rattle.rows.proofs.SettleFacts.{settles}
@@ -20,8 +19,6 @@ returns c =
       stay = strip_append;
       keep = round_keeps_strip;
       shorten = λ k f s few known long is. rounds_shorten k f.rows f.numbers s few known long is;
-      spell = spelled_blocks;
-      local = blocks_part;
       run = settles_by_rounds;
       between = lawful_between;
       fragments = part_is_fragment;
