@@ -10,5 +10,6 @@ pub mod LawfulFacts
 pub mod SettleFacts
 pub mod RoundLaws
 pub mod OneNumber
+pub mod Counts
 pub mod LeafFacts
 pub mod ShapeFacts

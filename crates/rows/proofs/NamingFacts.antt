@@ -182,19 +182,24 @@ rounds_replay (suc most) k f s more h =
           ∙ rounds_replay most (k + 1) g s more on.3
     ]
 
+-- one round more
+pub after_more : (k : ℕ) (rows : List Row) (codes : List ℕ) (f g : Filed) → after_rounds k rows codes ≡ Some f → round (k + 1) f ≡ Some g → after_rounds (k + 1) rows codes ≡ Some g
+unfolding after_rounds
+after_more k rows codes f g so_far next =
+    let e : suc k ≡ k + 1 = omega arith in
+    ap (λ i. after_rounds i rows codes) (sym e) ∙ ap (λ o. then o (round (suc k))) so_far ∙ ap (λ i. round i f) e ∙ next
+
 -- rounds that go on after j rounds are rounds on end
 rounds_on_end : (most k : ℕ) (rows : List Row) (codes : List ℕ) (f : Filed) (s : Settled) → after_rounds k rows codes ≡ Some f → rounds_from most k f ≡ Some s
     → after_rounds s.rounds rows codes ≡ Some (record { numbers = s.numbers; rows = s.rows })
-unfolding rounds_from after_rounds
+unfolding rounds_from
 rounds_on_end zero k rows codes f s so_far h =
     let e : settled f k ≡ s = cc in
     subst (λ g. after_rounds g.rounds rows codes ≡ Some (record { numbers = g.numbers; rows = g.rows })) e so_far
 rounds_on_end (suc most) k rows codes f s so_far h =
     elim (rounds_step most k f s h) [
       | inl stopped ↦ subst (λ g. after_rounds g.rounds rows codes ≡ Some (record { numbers = g.numbers; rows = g.rows })) stopped.1 so_far
-      | inr on ↦
-          let e : suc k ≡ k + 1 = omega arith in
-          rounds_on_end most (k + 1) rows codes on.1 s (ap (λ i. after_rounds i rows codes) (sym e) ∙ ap (λ o. then o (round (suc k))) so_far ∙ ap (λ i. round i f) e ∙ on.2) on.3
+      | inr on ↦ rounds_on_end most (k + 1) rows codes on.1 s (after_more k rows codes f on.1 so_far on.2) on.3
     ]
 
 -- a strip that was settled settles alike on the rows that it left and any rows after them

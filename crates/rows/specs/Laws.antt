@@ -2,6 +2,7 @@
 use Rattle.std.specs.Prelude.{◌≡◌, ℕ, zero, suc, ◌<◌, ◌≤◌, List, ◌++◌, length, Some, Option}
 use Rattle.std.specs.List.{AllByRecursion}
 use Rattle.rows.specs.declared.Row.{Row}
+use Rattle.rows.specs.Filing.{row_of}
 use Rattle.rows.specs.Lawful.{Lawful}
 use Rattle.rows.specs.Rounds.{Filed, then, round, Settled, rounds_from, leaves, settle, number_left}
 use Rattle.rows.specs.Strips.{strip, expanded}
@@ -65,6 +66,20 @@ after_rounds (suc j) rows codes = then (after_rounds j rows codes) (round (suc j
 abbrev pub SettlesByRounds : Type 0
 SettlesByRounds = (rows : List Row) (codes : List ℕ) (s : Settled) → settle rows codes ≡ Some s
     → after_rounds s.rounds rows codes ≡ Some (record { numbers = s.numbers; rows = s.rows })
+
+-- the rounds stop at the first string of at most one number: after fewer rounds two or more are left
+abbrev pub StopsFirst : Type 0
+StopsFirst = (rows : List Row) (codes : List ℕ) (s : Settled) (j : ℕ) → settle rows codes ≡ Some s → j < s.rounds
+    → (f : Filed) × (after_rounds j rows codes ≡ Some f) × (2 ≤ length f.numbers)
+
+-- so no round is run on a strip of at most one cell
+abbrev pub NoRounds : Type 0
+NoRounds = (rows : List Row) (codes : List ℕ) (s : Settled) → settle rows codes ≡ Some s → length codes ≤ 1 → s.rounds ≡ 0
+
+-- the row of the number that a strip comes to keeps how many rounds were run. No codes come to number 0, in no
+-- rounds, and its row is the blank one, of round 0
+abbrev pub RoundsKept : Type 0
+RoundsKept = OnceSettled (λ rows codes s. (row_of s.rows (number_left s.numbers)).round ≡ s.rounds)
 
 -- what holds after any number of rounds on a strip of at most 65,535 codes, where they began on lawful rows
 abbrev pub BetweenRounds : (ℕ → List ℕ → Filed → Type 0) → Type 0

@@ -20,6 +20,9 @@ ghost use Rattle.rows.specs.Laws.{
   RoundKeepsStrip,
   RoundsShorten,
   SettlesByRounds,
+  StopsFirst,
+  NoRounds,
+  RoundsKept,
   LawfulBetween,
   PartsAreFragments,
 };
@@ -69,8 +72,13 @@ fn laws_of_rounds()
     ensures keep { RoundKeepsStrip }
     ensures shorten { RoundsShorten }
 
-    // What stands after any number of rounds.
+    // How many rounds are run.
     ensures run { SettlesByRounds }
+    ensures first { StopsFirst }
+    ensures none { NoRounds }
+    ensures kept { RoundsKept }
+
+    // What stands after any number of rounds.
     ensures between { LawfulBetween }
     ensures fragments { PartsAreFragments }
 {}

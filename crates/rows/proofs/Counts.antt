@@ -1,0 +1,81 @@
+-- How many rounds are run: as many as leave at most one number, and the row of that number keeps the count.
+-- Assumes nothing.
+use Rattle.std.proofs.Common.{◌≡◌, ℕ, zero, suc, ◌+◌, ◌<◌, ◌≤◌, List, [], ◌∷◌, ◌++◌, map, length, take, drop, Some, sym, ap, ◌∙◌, inl, inr, arith}
+use lib.ListN.{length-map}
+use Rattle.std.proofs.lemmas.List.{take-append-drop, append-nil}
+use Rattle.std.proofs.lemmas.Bool.{cases_eq}
+use Rattle.rows.specs.declared.Row.{Row}
+use Rattle.rows.specs.Filing.{row_of}
+use Rattle.rows.specs.Laws.{after_rounds}
+use Rattle.rows.specs.Lawful.{Lawful}
+use Rattle.rows.specs.Rounds.{Filed, Settled, settled, rounds_from, leaf_block, enough_rounds, settle, number_left}
+use Rattle.rows.specs.Strips.{strip}
+use Rattle.rows.proofs.LawfulFacts.{row_lawful}
+use Rattle.rows.proofs.NamingFacts.{length_named, file_all_grows, rounds_stop, rounds_step, after_more, settle_parts, settle_replay}
+use Rattle.rows.proofs.OneNumber.{settled_stands}
+use Rattle.rows.proofs.SettleFacts.{settles}
+use Rattle.rows.proofs.StripFacts.{strip_none}
+
+-- before the last round two or more numbers are left
+rounds_before : (most k : ℕ) (rows : List Row) (codes : List ℕ) (f : Filed) (s : Settled) (j : ℕ) → after_rounds k rows codes ≡ Some f → rounds_from most k f ≡ Some s → k ≤ j → j < s.rounds
+    → (g : Filed) × (after_rounds j rows codes ≡ Some g) × (2 ≤ length g.numbers)
+unfolding rounds_from
+rounds_before zero k rows codes f s j so_far h from below = let e : settled f k ≡ s = cc in absurd (omega (arith, ap (λ g. g.rounds) e))
+rounds_before (suc most) k rows codes f s j so_far h from below =
+    elim (rounds_step most k f s h) [
+      | inl stopped ↦ absurd (omega (arith, ap (λ g. g.rounds) stopped.1))
+      | inr on ↦ elim (cases_eq j k) [
+        | inl here ↦ (f, ap (λ i. after_rounds i rows codes) here ∙ so_far, on.0)
+        | inr later ↦ rounds_before most (k + 1) rows codes on.1 s j (after_more k rows codes f on.1 so_far on.2) on.3 (omega arith) below
+      ]
+    ]
+
+pub stops_first : (rows : List Row) (codes : List ℕ) (s : Settled) (j : ℕ) → settle rows codes ≡ Some s → j < s.rounds
+    → (f : Filed) × (after_rounds j rows codes ≡ Some f) × (2 ≤ length f.numbers)
+unfolding after_rounds
+stops_first rows codes s j h below =
+    let parts = settle_parts rows codes s h in
+    rounds_before (enough_rounds (length codes)) 0 rows codes parts.0 s j parts.1 parts.2 (omega arith) below
+
+-- at most one code has no round
+pub no_rounds : (rows : List Row) (codes : List ℕ) (s : Settled) → settle rows codes ≡ Some s → length codes ≤ 1 → s.rounds ≡ 0
+no_rounds rows codes s h few =
+    let parts = settle_parts rows codes s h in
+    let f = parts.0 in
+    let names = (file_all_grows 0 (map leaf_block codes) rows f parts.1).names in
+    let as_many : length f.numbers ≡ length codes = length_named f.rows (map leaf_block codes) f.numbers names ∙ length-map codes leaf_block in
+    let stops = sym (rounds_stop (enough_rounds (length codes)) 0 f (omega arith)) ∙ parts.2 in
+    let e : settled f 0 ≡ s = cc in
+    sym (ap (λ g. g.rounds) e)
+
+-- the row of the number that a strip comes to keeps the count of its rounds
+kept_of_some : (rows : List Row) (codes : List ℕ) (s : Settled) → Lawful rows → length codes ≤ 65535 → settle rows codes ≡ Some s
+    → 0 < number_left s.numbers → (row_of s.rows (number_left s.numbers)).round ≡ s.rounds
+kept_of_some rows codes s law short h some =
+    let n = number_left s.numbers in
+    let stands = settled_stands rows codes s law short h in
+    let row = row_lawful s.rows (settles rows codes s law short h).lawful n some stands.known in
+    let alone : settle (take n s.rows) codes ≡ Some (record { numbers = n ∷ []; rows = take n s.rows; rounds = (row_of s.rows n).round }) =
+    ap (settle (take n s.rows)) (sym stands.writes) ∙ row.comes in
+    let on_all = settle_replay (take n s.rows) codes (record { numbers = n ∷ []; rows = take n s.rows; rounds = (row_of s.rows n).round }) (drop n s.rows) alone in
+    let again = settle_replay rows codes s [] h in
+    let left : settle s.rows codes ≡ Some (record { numbers = n ∷ []; rows = take n s.rows ++ drop n s.rows; rounds = (row_of s.rows n).round }) =
+    ap (λ rs. settle rs codes) (sym (take-append-drop n s.rows)) ∙ on_all in
+    let right : settle s.rows codes ≡ Some (record { numbers = s.numbers; rows = s.rows ++ []; rounds = s.rounds }) =
+    ap (λ rs. settle rs codes) (sym (append-nil s.rows)) ∙ again in
+    same_rounds _ _ (sym left ∙ right)
+  where
+    same_rounds : (a b : Settled) → Some a ≡ Some b → a.rounds ≡ b.rounds
+    same_rounds a b e = let f : a ≡ b = cc in ap (λ t. t.rounds) f
+
+-- also number 0, of no codes
+pub rounds_kept : (rows : List Row) (codes : List ℕ) (s : Settled) → Lawful rows → length codes ≤ 65535 → settle rows codes ≡ Some s
+    → (row_of s.rows (number_left s.numbers)).round ≡ s.rounds
+rounds_kept rows codes s law short h =
+    let stands = settled_stands rows codes s law short h in
+    elim (cases_eq (number_left s.numbers) 0) [
+      | inl none ↦
+          let empty : codes ≡ [] = sym stands.writes ∙ ap (strip s.rows) none ∙ strip_none s.rows in
+          ap (λ n. (row_of s.rows n).round) none ∙ sym (no_rounds rows codes s h (omega (arith, ap length empty)))
+      | inr some ↦ kept_of_some rows codes s law short h (omega arith)
+    ]
