@@ -1,6 +1,7 @@
-// Rows of a shelf: a run-length straight-line program in which each strip has one number. A row is a leaf
-// with a code, a pair of two smaller rows, or a repeat of one. Definitions and theory stand here: the
-// strips that rows write, the recompression rounds, and the properties of a shelf's rows.
+//! Rows of a shelf: a run-length straight-line program in which each strip has one number. A row is a leaf
+//! with a code, a pair of two smaller rows, or a repeat of one. Definitions and theory stand here: the
+//! strips that rows write, the recompression rounds, and the properties of a shelf's rows. The functions
+//! `laws_of_rounds` and `laws_of_blocks` do nothing: their contracts are the theory's laws.
 #![tactic(auto)]
 
 ghost use Rattle.rows.specs.Blocks.{
@@ -27,18 +28,18 @@ ghost use Rattle.rows.specs.Laws.{
   PartsAreFragments,
 };
 
-// What a row is made of. Parts are numbers of rows; number 0 stands for the empty strip.
+/// What a row is made of. Parts are numbers of rows; number 0 stands for the empty strip.
 #[derive(Clone, Copy, PartialEq, Eq, Debug)]
 pub enum Shape {
-    // One cell, by its code.
+    /// One cell, by its code.
     Leaf { code: u32 },
-    // The left part and then the right part.
+    /// The left part and then the right part.
     Pair { left: u16, right: u16 },
-    // A part, so many times.
+    /// A part, so many times.
     Repeat { part: u16, times: u16 },
 }
 
-// A row also keeps the length of its strip and the round that makes it; a leaf has round 0.
+/// A row also keeps the length of its strip and the round that makes it; a leaf has round 0.
 #[derive(Clone, Copy, PartialEq, Eq, Debug)]
 pub struct Row {
     pub shape: Shape,
@@ -46,21 +47,28 @@ pub struct Row {
     pub round: u32,
 }
 
-// A row that is not in use. It is written out, since a constant cannot call `default`.
+/// A row that is not in use. It is written out, since a constant cannot call `default`.
 pub const BLANK: Row = Row {
     shape: Shape::Leaf { code: 0 },
     length: 0,
     round: 0,
 };
 
-// The most rows that a shelf has.
+/// The most rows that a shelf has.
 pub const MAX_ROWS: usize = 1024;
 
-// The most cells that a strip has.
+/// The most cells that a strip has.
 pub const MAX_CELLS: usize = 65_535;
 
-// The laws of the rounds, which the law of one strip and one number rests on.
-fn laws_of_rounds()
+/// The laws of the rounds, which the law of one strip and one number rests on. Of settling a strip: the rounds leave at
+/// most one number (`end`), that writes the strip (`strip`); the rows are lawful again and begin with those of before
+/// (`rows`); on all rows that come after, the strip settles alike (`replay`), and known numbers keep their strips
+/// (`stay`). Of one round: it keeps the strip (`keep`), and any 44 on end shorten a string of two or more (`shorten`). Of
+/// their count: what settling leaves is what so many rounds leave (`run`), and fewer leave two numbers or more
+/// (`first`); at most one cell takes none (`none`); and the number's row keeps the count (`kept`). Between rounds the
+/// rows are lawful (`between`), and each part of the string stands for a fragment of the strip that comes to it alone
+/// (`fragments`).
+pub fn laws_of_rounds()
     // What settling a strip leaves, and what stays when rows are added.
     ensures end { RoundsEnd }
     ensures strip { StripKept }
@@ -83,9 +91,13 @@ fn laws_of_rounds()
     ensures fragments { PartsAreFragments }
 {}
 
-// The laws of the blocks that a round cuts a string up into.
-fn laws_of_blocks()
-    // What the blocks are: the one list that is cut as the round's rule says, ..
+/// The laws of the blocks that a round cuts a string up into. They are the one list that spells the string, has only
+/// blocks of the round's form, and has no two neighbours that would merge (`cut`); so a longest stretch of equal numbers
+/// is one block in odd rounds (`stretches`), and a left number with the right one after it in even rounds (`pairs`). Two
+/// strings side by side are cut up alone exactly where their seam does not merge (`seam`); blocks spell the whole string
+/// (`spell`), and are those of their own numbers alone (`local`).
+pub fn laws_of_blocks()
+    // What the blocks are, ..
     ensures cut { BlocksCutUp }
     ensures stretches { StretchesRepeat }
     ensures pairs { PairsMade }
