@@ -32,12 +32,15 @@ blank_row = record { shape = Leaf 0; length = 0; round = 0 }
 abbrev pub row_of : List Row → ℕ → Row
 row_of rows n = slice_index_or (blank_row ∷ rows) n blank_row
 
--- the length that a row of that shape keeps, from the lengths that its parts keep. It never passes 65,535
--- on a shelf; the field could not hold more
+-- the length of what a shape writes, from the lengths that the rows of its parts keep
+abbrev pub whole_length : List Row → Shape → ℕ
+whole_length rows (Leaf code) = 1
+whole_length rows (Pair left right) = (row_of rows left).length + (row_of rows right).length
+whole_length rows (Repeat part count) = (row_of rows part).length * count
+
+-- the length that a row of that shape keeps: the field could hold no more than 65,535, which a shelf never passes
 abbrev pub shape_length : List Row → Shape → ℕ
-shape_length rows (Leaf code) = 1
-shape_length rows (Pair left right) = min 65535 ((row_of rows left).length + (row_of rows right).length)
-shape_length rows (Repeat part count) = min 65535 ((row_of rows part).length * count)
+shape_length rows shape = min 65535 (whole_length rows shape)
 
 abbrev pub row_made : ℕ → List Row → Shape → Row
 row_made k rows shape = record { shape = shape; length = shape_length rows shape; round = k }
