@@ -4,6 +4,7 @@ use Rattle.std.proofs.Common.{◌≡◌, ℕ, zero, suc, ◌+◌, ◌<◌, ◌�
 use lib.ListN.{length-map}
 use Rattle.std.proofs.lemmas.List.{take-append-drop, append-nil}
 use Rattle.std.proofs.lemmas.Bool.{cases_eq}
+use Rattle.std.proofs.lemmas.Option.{same_Some}
 use Rattle.rows.specs.declared.Row.{Row}
 use Rattle.rows.specs.Filing.{row_of}
 use Rattle.rows.specs.Laws.{after_rounds}
@@ -63,10 +64,7 @@ kept_of_some rows codes s law short h some =
     ap (λ rs. settle rs codes) (sym (take-append-drop n s.rows)) ∙ on_all in
     let right : settle s.rows codes ≡ Some (record { numbers = s.numbers; rows = s.rows ++ []; rounds = s.rounds }) =
     ap (λ rs. settle rs codes) (sym (append-nil s.rows)) ∙ again in
-    same_rounds _ _ (sym left ∙ right)
-  where
-    same_rounds : (a b : Settled) → Some a ≡ Some b → a.rounds ≡ b.rounds
-    same_rounds a b e = let f : a ≡ b = cc in ap (λ t. t.rounds) f
+    ap (λ g. g.rounds) (same_Some _ _ (sym left ∙ right))
 
 -- also number 0, of no codes
 pub rounds_kept : (rows : List Row) (codes : List ℕ) (s : Settled) → Lawful rows → length codes ≤ 65535 → settle rows codes ≡ Some s

@@ -79,6 +79,21 @@ find_known rows s n h =
     shift rs zero h₀ = absurd (omega arith)
     shift rs (suc m) h₀ = let e : m ≡ suc m - 1 = omega arith in ap (λ k. (get_or rs k blank_row).shape) e
 
+-- and is found where the rows after its number are not there
+find_from_before : (i : ℕ) (rows more : List Row) (s : Shape) (n : ℕ) → n < i + length rows → find_from i (rows ++ more) s ≡ Some n → find_from i rows s ≡ Some n
+find_from_before i [] more s n less h = absurd (omega (arith, (find_from_known i more s n h).0))
+find_from_before i (row ∷ rows) more s n less h =
+    elim (cases_Bool (alike row.shape s)) [
+      | inl same ↦ cond-true (alike row.shape s) (Some i) (find_from (i + 1) rows s) same ∙ sym (cond-true (alike row.shape s) (Some i) (find_from (i + 1) (rows ++ more) s) same) ∙ h
+      | inr other ↦
+          cond-false (alike row.shape s) (Some i) (find_from (i + 1) rows s) other
+          ∙ find_from_before (i + 1) rows more s n (omega arith) (sym (cond-false (alike row.shape s) (Some i) (find_from (i + 1) (rows ++ more) s) other) ∙ h)
+    ]
+
+pub find_before : (rows more : List Row) (s : Shape) (n : ℕ) → n ≤ length rows → find (rows ++ more) s ≡ Some n → find rows s ≡ Some n
+unfolding find
+find_before rows more s n within h = find_from_before 1 rows more s n (omega arith) h
+
 -- what filing does: rows grow by at most one row of that shape, and the shape is found as its number
 pub record Grown (k : ℕ) (rows : List Row) (s : Shape) (f : Numbered) : Type 0 where
   pub added : List Row

@@ -1,14 +1,14 @@
 -- What the test of a lawful row says, and that lawful rows stay lawful under added rows.
 -- Assumes nothing.
-use Rattle.std.proofs.Common.{◌≡◌, ℕ, zero, suc, ◌+◌, ◌-◌, ◌<◌, ◌≤◌, true, false, ◌&&◌, eqb, leb, List, [], ◌∷◌, ◌++◌, length, take, Some, None, Option, sym, refl, ap, ◌∙◌, subst, inl, inr, arith, length-append}
-use Rattle.std.proofs.lemmas.List.{append-nil, length-take-le, take-append-le, nil_from_length, get_or_past}
+use Rattle.std.proofs.Common.{◌≡◌, ℕ, zero, suc, ◌+◌, ◌-◌, ◌<◌, ◌≤◌, true, false, ◌&&◌, eqb, leb, List, [], ◌∷◌, ◌++◌, length, take, drop, Some, None, Option, sym, refl, ap, ◌∙◌, subst, inl, inr, arith, length-append}
+use Rattle.std.proofs.lemmas.List.{append-nil, length-take-le, take-append-le, take-append-drop, nil_from_length, get_or_past}
 use Rattle.std.proofs.lemmas.Bool.{both_ways, and_parts, and_from, eqb-true, eq-eqb, leb-true, le-leb, cases_lt}
 use Rattle.rows.specs.declared.Row.{Row}
 use Rattle.rows.specs.Filing.{find, row_of}
 use Rattle.rows.specs.Lawful.{parts_below, found_as, comes_to, lawful_row, Lawful}
 use Rattle.rows.specs.Rounds.{Settled, settle, number_left}
 use Rattle.rows.specs.Strips.{strips_from, strip}
-use Rattle.rows.proofs.FilingFacts.{find_append}
+use Rattle.rows.proofs.FilingFacts.{find_append, find_before}
 use Rattle.rows.proofs.NamingFacts.{settle_grows}
 use Rattle.rows.proofs.StripFacts.{Parts, strip_append, row_append, length_strips}
 
@@ -94,6 +94,32 @@ pub row_lawful : (rows : List Row) → Lawful rows → (n : ℕ) → 0 < n → n
 row_lawful rows law n some within =
     let e : n - 1 + 1 ≡ n = omega arith in
     row_from_test rows n within (subst (λ k. lawful_row rows k ≡ true) e (law.1 (n - 1) (omega arith)))
+
+-- rows that begin lawful rows are lawful
+row_lawful_before : (rows more : List Row) (n : ℕ) → n ≤ length rows → RowLawful (rows ++ more) n → RowLawful rows n
+row_lawful_before rows more n within law =
+    let same_row = row_append rows more n within in
+    let same_strip = strip_append rows more n within in
+    let same_rows = take-append-le n rows more within in
+    record {
+      parts = subst (λ r. parts_below n r.shape ≡ true) same_row law.parts;
+      found = find_before rows more (row_of rows n).shape n within (subst (λ r. find (rows ++ more) r.shape ≡ Some n) same_row law.found);
+      long = ap (λ r. r.length) (sym same_row) ∙ law.long ∙ ap length same_strip;
+      short = subst (λ xs. length xs ≤ 65535) same_strip law.short;
+      comes = ap (λ rs. settle rs (strip rows n)) (sym same_rows) ∙ ap (settle (take n (rows ++ more))) (sym same_strip) ∙ law.comes
+          ∙ ap (λ rs. Some (record { numbers = n ∷ []; rows = rs; rounds = (row_of (rows ++ more) n).round })) same_rows
+          ∙ ap (λ r. Some (record { numbers = n ∷ []; rows = take n rows; rounds = r.round })) same_row;
+    }
+
+pub lawful_before : (rows more : List Row) → Lawful (rows ++ more) → Lawful rows
+lawful_before rows more law =
+    let sum = length-append rows more in (
+      omega (arith, law.0),
+      λ k within. test_from_row rows (k + 1) (omega arith) (row_lawful_before rows more (k + 1) (omega arith) (row_lawful (rows ++ more) law (k + 1) (omega arith) (omega arith))),
+    )
+
+pub lawful_take : (rows : List Row) (n : ℕ) → Lawful rows → Lawful (take n rows)
+lawful_take rows n law = lawful_before (take n rows) (drop n rows) (subst Lawful (sym (take-append-drop n rows)) law)
 
 pub lawful_parts : (rows : List Row) → Lawful rows → Parts rows
 lawful_parts rows law n some within = (row_lawful rows law n some within).parts

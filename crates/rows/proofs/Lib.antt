@@ -7,6 +7,7 @@ pub mod Ends
 pub mod RoundFacts
 pub mod KeepFacts
 pub mod LawfulFacts
+pub mod ByShapes
 pub mod SettleFacts
 pub mod RoundLaws
 pub mod OneNumber

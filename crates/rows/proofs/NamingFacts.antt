@@ -3,6 +3,7 @@
 use Rattle.std.proofs.Common.{◌≡◌, ℕ, zero, suc, ◌+◌, ◌<◌, ◌≤◌, ltb, ◌⊎◌, List, [], ◌∷◌, ◌++◌, map, length, Some, None, Option, sym, refl, ap, ◌∙◌, subst, inl, inr, arith}
 use Rattle.std.proofs.lemmas.List.{append-nil, append_assoc}
 use Rattle.std.proofs.lemmas.Bool.{cases_lt, cond-true, cond-false, lt-ltb, le-ltb}
+use Rattle.rows.specs.declared.Shape.{Shape}
 use Rattle.rows.specs.declared.Row.{Row}
 use Rattle.rows.specs.Filing.{find, file}
 use Rattle.rows.specs.Laws.{after_rounds}
@@ -21,16 +22,25 @@ Named rows [] (n ∷ numbers) = ⊥
 Named rows (b ∷ bs) [] = ⊥
 Named rows (b ∷ bs) (n ∷ numbers) = (name_of rows b ≡ Some n) × Named rows bs numbers
 
-name_append : (rows more : List Row) (b : Block) (n : ℕ) → name_of rows b ≡ Some n → name_of (rows ++ more) b ≡ Some n
-name_append rows more (one m) n h = h
-name_append rows more (new shape) n h = find_append rows more shape n h
+-- what one list of rows finds, another finds under the same number
+abbrev pub FindsAlike : List Row → List Row → Type 0
+FindsAlike rows others = (shape : Shape) (n : ℕ) → find rows shape ≡ Some n → find others shape ≡ Some n
+
+module _ (rows others : List Row) (alike : FindsAlike rows others) where
+  name_alike : (b : Block) (n : ℕ) → name_of rows b ≡ Some n → name_of others b ≡ Some n
+  name_alike (one m) n h = h
+  name_alike (new shape) n h = alike shape n h
+
+  -- so it has the same names
+  pub named_alike : (bs : List Block) (numbers : List ℕ) → Named rows bs numbers → Named others bs numbers
+  named_alike [] [] h = tt
+  named_alike [] (n ∷ numbers) h = h
+  named_alike (b ∷ bs) [] h = h
+  named_alike (b ∷ bs) (n ∷ numbers) h = (name_alike b n h.0, named_alike bs numbers h.1)
 
 -- names stay under added rows
 pub named_append : (rows more : List Row) (bs : List Block) (numbers : List ℕ) → Named rows bs numbers → Named (rows ++ more) bs numbers
-named_append rows more [] [] h = tt
-named_append rows more [] (n ∷ numbers) h = h
-named_append rows more (b ∷ bs) [] h = h
-named_append rows more (b ∷ bs) (n ∷ numbers) h = (name_append rows more b n h.0, named_append rows more bs numbers h.1)
+named_append rows more = named_alike rows (rows ++ more) (find_append rows more)
 
 pub length_named : (rows : List Row) (bs : List Block) (numbers : List ℕ) → Named rows bs numbers → length numbers ≡ length bs
 length_named rows [] [] h = refl
@@ -162,24 +172,23 @@ rounds_grow (suc most) k f s h =
           (this.added ++ rest.0, rest.1 ∙ ap (λ rs. rs ++ rest.0) this.grows ∙ append_assoc f.rows this.added rest.0)
     ]
 
--- and on the rows that they leave, with any rows after them, they run alike and add nothing
-pub rounds_replay : (most k : ℕ) (f : Filed) (s : Settled) (more : List Row) → rounds_from most k f ≡ Some s
-    → rounds_from most k (record { numbers = f.numbers; rows = s.rows ++ more }) ≡ Some (record { numbers = s.numbers; rows = s.rows ++ more; rounds = s.rounds })
+-- and on rows that find alike what those that they leave find, they run alike and add nothing
+rounds_again : (most k : ℕ) (f : Filed) (s : Settled) (others : List Row) → FindsAlike s.rows others → rounds_from most k f ≡ Some s
+    → rounds_from most k (record { numbers = f.numbers; rows = others }) ≡ Some (record { numbers = s.numbers; rows = others; rounds = s.rounds })
 unfolding rounds_from
-rounds_replay zero k f s more h = let e : settled f k ≡ s = cc in ap (λ g. Some (record { numbers = g.numbers; rows = s.rows ++ more; rounds = g.rounds })) e
-rounds_replay (suc most) k f s more h =
-    let again : Filed = record { numbers = f.numbers; rows = s.rows ++ more } in
+rounds_again zero k f s others alike h = let e : settled f k ≡ s = cc in ap (λ g. Some (record { numbers = g.numbers; rows = others; rounds = g.rounds })) e
+rounds_again (suc most) k f s others alike h =
+    let again : Filed = record { numbers = f.numbers; rows = others } in
     elim (rounds_step most k f s h) [
-      | inl stopped ↦ rounds_stop (suc most) k again stopped.0 ∙ ap (λ g. Some (record { numbers = g.numbers; rows = s.rows ++ more; rounds = g.rounds })) stopped.1
+      | inl stopped ↦ rounds_stop (suc most) k again stopped.0 ∙ ap (λ g. Some (record { numbers = g.numbers; rows = others; rounds = g.rounds })) stopped.1
       | inr on ↦
           let g = on.1 in
-          let this = file_all_grows (k + 1) (blocks (k + 1) f.numbers) f.rows g on.2 in
+          let bs = blocks (k + 1) f.numbers in
           let rest = rounds_grow most (k + 1) g s on.3 in
-          let all_rows : s.rows ++ more ≡ g.rows ++ (rest.0 ++ more) = ap (λ rs. rs ++ more) rest.1 ∙ append_assoc g.rows rest.0 more in
-          let names = subst (λ rs. Named rs (blocks (k + 1) f.numbers) g.numbers) (sym all_rows) (named_append g.rows (rest.0 ++ more) (blocks (k + 1) f.numbers) g.numbers this.names) in
-          rounds_go most k again on.0
-          ∙ ap (λ o. then o (rounds_from most (k + 1))) (file_named (k + 1) (blocks (k + 1) f.numbers) (s.rows ++ more) g.numbers names)
-          ∙ rounds_replay most (k + 1) g s more on.3
+          let still = named_append g.rows rest.0 bs g.numbers (file_all_grows (k + 1) bs f.rows g on.2).names in
+          let names = named_alike s.rows others alike bs g.numbers (subst (λ rs. Named rs bs g.numbers) (sym rest.1) still) in
+          rounds_go most k again on.0 ∙ ap (λ o. then o (rounds_from most (k + 1))) (file_named (k + 1) bs others g.numbers names)
+          ∙ rounds_again most (k + 1) g s others alike on.3
     ]
 
 -- one round more
@@ -202,7 +211,7 @@ rounds_on_end (suc most) k rows codes f s so_far h =
       | inr on ↦ rounds_on_end most (k + 1) rows codes on.1 s (after_more k rows codes f on.1 so_far on.2) on.3
     ]
 
--- a strip that was settled settles alike on the rows that it left and any rows after them
+-- settling files the leaves, and then runs rounds
 pub settle_parts : (rows : List Row) (codes : List ℕ) (s : Settled) → settle rows codes ≡ Some s
     → (f : Filed) × (leaves rows codes ≡ Some f) × (rounds_from (enough_rounds (length codes)) 0 f ≡ Some s)
 unfolding settle
@@ -222,15 +231,21 @@ settle_grows rows codes s h =
     let rest = rounds_grow (enough_rounds (length codes)) 0 parts.0 s parts.2 in
     (first.added ++ rest.0, rest.1 ∙ ap (λ rs. rs ++ rest.0) first.grows ∙ append_assoc rows first.added rest.0)
 
-pub settle_replay : (rows : List Row) (codes : List ℕ) (s : Settled) (more : List Row) → settle rows codes ≡ Some s
-    → settle (s.rows ++ more) codes ≡ Some (record { numbers = s.numbers; rows = s.rows ++ more; rounds = s.rounds })
+-- a strip that was settled settles alike on rows that find alike what those that it left find
+pub settle_again : (rows : List Row) (codes : List ℕ) (s : Settled) (others : List Row) → FindsAlike s.rows others → settle rows codes ≡ Some s
+    → settle others codes ≡ Some (record { numbers = s.numbers; rows = others; rounds = s.rounds })
 unfolding settle
-settle_replay rows codes s more h =
+settle_again rows codes s others alike h =
     let parts = settle_parts rows codes s h in
     let f = parts.0 in
-    let first = file_all_grows 0 (map leaf_block codes) rows f parts.1 in
+    let bs = map leaf_block codes in
     let rest = rounds_grow (enough_rounds (length codes)) 0 f s parts.2 in
-    let all_rows : s.rows ++ more ≡ f.rows ++ (rest.0 ++ more) = ap (λ rs. rs ++ more) rest.1 ∙ append_assoc f.rows rest.0 more in
-    let names = subst (λ rs. Named rs (map leaf_block codes) f.numbers) (sym all_rows) (named_append f.rows (rest.0 ++ more) (map leaf_block codes) f.numbers first.names) in
-    ap (λ o. then o (rounds_from (enough_rounds (length codes)) 0)) (file_named 0 (map leaf_block codes) (s.rows ++ more) f.numbers names)
-    ∙ rounds_replay (enough_rounds (length codes)) 0 f s more parts.2
+    let still = named_append f.rows rest.0 bs f.numbers (file_all_grows 0 bs rows f parts.1).names in
+    let names = named_alike s.rows others alike bs f.numbers (subst (λ rs. Named rs bs f.numbers) (sym rest.1) still) in
+    ap (λ o. then o (rounds_from (enough_rounds (length codes)) 0)) (file_named 0 bs others f.numbers names)
+    ∙ rounds_again (enough_rounds (length codes)) 0 f s others alike parts.2
+
+-- as on those rows with any rows after them
+pub settle_replay : (rows : List Row) (codes : List ℕ) (s : Settled) (more : List Row) → settle rows codes ≡ Some s
+    → settle (s.rows ++ more) codes ≡ Some (record { numbers = s.numbers; rows = s.rows ++ more; rounds = s.rounds })
+settle_replay rows codes s more h = settle_again rows codes s (s.rows ++ more) (find_append s.rows more) h

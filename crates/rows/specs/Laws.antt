@@ -1,6 +1,7 @@
 -- The laws of the rounds, each in one statement. Assumes nothing.
-use Rattle.std.specs.Prelude.{◌≡◌, ℕ, zero, suc, ◌<◌, ◌≤◌, List, ◌++◌, length, Some, Option}
+use Rattle.std.specs.Prelude.{◌≡◌, ℕ, zero, suc, ◌<◌, ◌≤◌, List, ◌++◌, map, length, take, Some, Option}
 use Rattle.std.specs.List.{AllByRecursion}
+use Rattle.rows.specs.declared.Shape.{Shape}
 use Rattle.rows.specs.declared.Row.{Row}
 use Rattle.rows.specs.Filing.{row_of}
 use Rattle.rows.specs.Lawful.{Lawful}
@@ -36,10 +37,6 @@ pub record Replayed (rows : List Row) (codes : List ℕ) (s : Settled) : Type 0 
 abbrev pub Replays : Type 0
 Replays = (rows : List Row) (codes : List ℕ) (s : Settled) (more : List Row) → settle rows codes ≡ Some s
     → Replayed (s.rows ++ more) codes s
-
--- the strip of number 0 or of a known number is the same after rows were added
-abbrev pub StripsStay : Type 0
-StripsStay = (rows more : List Row) (n : ℕ) → n ≤ length rows → strip (rows ++ more) n ≡ strip rows n
 
 -- every number of a string is that of a row in use
 abbrev pub AllInUse : List Row → List ℕ → Type 0
@@ -99,3 +96,19 @@ pub record IsFragment (j : ℕ) (codes : List ℕ) (rows : List Row) (before par
 abbrev pub PartsAreFragments : Type 0
 PartsAreFragments = BetweenRounds (λ j codes f. (before part after : List ℕ) → f.numbers ≡ before ++ (part ++ after)
     → IsFragment j codes f.rows before part after)
+
+-- the strip of number 0 or of a known number is the same after rows were added
+abbrev pub StripsStay : Type 0
+StripsStay = (rows more : List Row) (n : ℕ) → n ≤ length rows → strip (rows ++ more) n ≡ strip rows n
+
+-- the first rows of lawful rows are lawful
+abbrev pub FrontLawful : Type 0
+FrontLawful = (rows : List Row) (n : ℕ) → Lawful rows → Lawful (take n rows)
+
+-- what the rows are made of
+abbrev pub shapes : List Row → List Shape
+shapes rows = map (λ row. row.shape) rows
+
+-- lawful rows are told by their shapes alone: the lengths and the rounds that they keep follow
+abbrev pub ShapesTell : Type 0
+ShapesTell = (a b : List Row) → Lawful a → Lawful b → shapes a ≡ shapes b → a ≡ b

@@ -1,7 +1,7 @@
 //! Rows of a shelf: a run-length straight-line program in which each strip has one number. A row is a leaf
 //! with a code, a pair of two smaller rows, or a repeat of one. Definitions and theory stand here: the
 //! strips that rows write, the recompression rounds, and the properties of a shelf's rows. The functions
-//! `laws_of_rounds` and `laws_of_blocks` do nothing: their contracts are the theory's laws.
+//! `laws_of_rounds`, `laws_of_blocks` and `laws_of_rows` do nothing: their contracts are the theory's laws.
 #![tactic(auto)]
 
 ghost use Rattle.rows.specs.Blocks.{
@@ -17,7 +17,6 @@ ghost use Rattle.rows.specs.Laws.{
   StripKept,
   RowsKept,
   Replays,
-  StripsStay,
   RoundKeepsStrip,
   RoundsShorten,
   SettlesByRounds,
@@ -26,6 +25,9 @@ ghost use Rattle.rows.specs.Laws.{
   RoundsKept,
   LawfulBetween,
   PartsAreFragments,
+  StripsStay,
+  FrontLawful,
+  ShapesTell,
 };
 
 /// What a row is made of. Parts are numbers of rows; number 0 stands for the empty strip.
@@ -62,19 +64,17 @@ pub const MAX_CELLS: usize = 65_535;
 
 /// The laws of the rounds, which the law of one strip and one number rests on. Of settling a strip: the rounds leave at
 /// most one number (`end`), that writes the strip (`strip`); the rows are lawful again and begin with those of before
-/// (`rows`); on all rows that come after, the strip settles alike (`replay`), and known numbers keep their strips
-/// (`stay`). Of one round: it keeps the strip (`keep`), and any 44 on end shorten a string of two or more (`shorten`). Of
-/// their count: what settling leaves is what so many rounds leave (`run`), and fewer leave two numbers or more
-/// (`first`); at most one cell takes none (`none`); and the number's row keeps the count (`kept`). Between rounds the
-/// rows are lawful (`between`), and each part of the string stands for a fragment of the strip that comes to it alone
-/// (`fragments`).
+/// (`rows`); on all rows that come after, the strip settles alike (`replay`). Of one round: it keeps the strip (`keep`),
+/// and any 44 on end shorten a string of two or more (`shorten`). Of their count: what settling leaves is what so many
+/// rounds leave (`run`), and fewer leave two numbers or more (`first`); at most one cell takes none (`none`); and the
+/// number's row keeps the count (`kept`). Between rounds the rows are lawful (`between`), and each part of the string
+/// stands for a fragment of the strip that comes to it alone (`fragments`).
 pub fn laws_of_rounds()
-    // What settling a strip leaves, and what stays when rows are added.
+    // What settling a strip leaves.
     ensures end { RoundsEnd }
     ensures strip { StripKept }
     ensures rows { RowsKept }
     ensures replay { Replays }
-    ensures stay { StripsStay }
 
     // What a round does.
     ensures keep { RoundKeepsStrip }
@@ -106,4 +106,13 @@ pub fn laws_of_blocks()
     ensures seam { SeamsRead }
     ensures spell { BlocksSpell }
     ensures local { BlocksLocal }
+{}
+
+/// The laws of the rows of a shelf: a known number keeps its strip when rows are added (`stay`); the first of lawful rows
+/// are lawful (`front`); and lawful rows are told by their shapes alone, from which the lengths and the rounds that they
+/// keep follow (`shapes`).
+pub fn laws_of_rows()
+    ensures stay { StripsStay }
+    ensures front { FrontLawful }
+    ensures shapes { ShapesTell }
 {}

@@ -6,7 +6,6 @@ use Rattle.rows.proofs.OneNumber.{settled_stands}
 use Rattle.rows.proofs.RoundFacts.{rounds_shorten}
 use Rattle.rows.proofs.RoundLaws.{round_keeps_strip, lawful_between, part_is_fragment}
 use Rattle.rows.proofs.SettleFacts.{settles}
-use Rattle.rows.proofs.StripFacts.{strip_append}
 use Rattle.rows.proofs.laws_of_rounds.Goals as goal
 
 pub returns : goal.returns
@@ -17,7 +16,6 @@ returns c =
       rows = λ rows codes s law short is. let done = settles rows codes s law short is in (done.lawful, done.added, done.grows);
       replay = λ rows codes s more is.
           record { again = _; settles = settle_replay rows codes s more is; adds_none = refl; comes = refl; same_rounds = refl };
-      stay = strip_append;
       keep = round_keeps_strip;
       shorten = λ k f s few known long is. rounds_shorten k f.rows f.numbers s few known long is;
       run = settles_by_rounds;
