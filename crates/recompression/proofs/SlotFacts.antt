@@ -10,13 +10,9 @@ use Rattle.recompression.specs.Buckets.{IndexOf, Distinct}
 use Rattle.recompression.specs.Tables.{in_use, is_blank_row, LengthsKept, Sound, appended, truncated}
 use Rattle.recompression.specs.declared.index.Index.{Index}
 use Rattle.recompression.specs.declared.slots.Slots.{Slots}
-use Rattle.recompression.proofs.BucketFacts.{distinct_none, distinct_added, distinct_taken}
+use Rattle.recompression.proofs.DistinctFacts.{distinct_none, distinct_added, distinct_taken}
+use Rattle.recompression.proofs.Fills.{filled_at}
 use Rattle.recompression.proofs.LengthFacts.{lengths_none, lengths_added, lengths_taken}
-
-pub blank_slots : (n k : ℕ) → get_or (replicate n blank_row) k blank_row ≡ blank_row
-blank_slots zero k = refl
-blank_slots (suc n) zero = refl
-blank_slots (suc n) (suc k) = blank_slots n k
 
 -- blank slots, none in use
 pub none_in_use : (s : Slots) → s.count ≡ 0 → in_use s ≡ []
@@ -26,7 +22,7 @@ pub blank_sound : (s : Slots) → s.rows ≡ replicate 1024 blank_row → s.coun
 blank_sound s blank none indexed = (
   ap length blank,
   omega arith,
-  λ k h. ap (λ rows. is_blank_row (get_or rows k blank_row)) blank ∙ rw (blank_slots 1024 k),
+  λ k h. ap (λ rows. is_blank_row (get_or rows k blank_row)) blank ∙ rw (filled_at 1024 k blank_row),
   subst LengthsKept (sym (none_in_use s none)) lengths_none,
   subst (λ rows. IndexOf rows s.index) (sym (none_in_use s none)) indexed,
   subst Distinct (sym (none_in_use s none)) distinct_none,
@@ -78,7 +74,7 @@ module _ (n : ℕ) (s : Slots) (index : Index) (sound : Sound s) where
   blank_from : (k : ℕ) → min s.count n ≤ k → is_blank_row (get_or (truncated n s index).rows k blank_row) ≡ true
   blank_from k past =
       let more = length s.rows - min s.count n in
-      ap is_blank_row (get_or-append_right (take (min s.count n) s.rows) (replicate more blank_row) (min s.count n) k blank_row front_long past ∙ blank_slots more (k - min s.count n))
+      ap is_blank_row (get_or-append_right (take (min s.count n) s.rows) (replicate more blank_row) (min s.count n) k blank_row front_long past ∙ filled_at more (k - min s.count n) blank_row)
 
   pub truncated_sound : IndexOf (take n (in_use s)) index → Sound (truncated n s index)
   truncated_sound indexed = (

@@ -1,5 +1,5 @@
 -- Rows parted into buckets by their shapes, and the index that keeps the chain of each bucket. Assumes nothing.
-use Rattle.std.specs.Prelude.{◌≡◌, ℕ, zero, suc, ◌+◌, ◌*◌, ◌/◌, ◌%◌, ◌^◌, ◌<◌, ◌≤◌, cond, List, length, Some, ◌==◌, slice_index, slice_index_or}
+use Rattle.std.specs.Prelude.{◌≡◌, ℕ, zero, suc, ◌+◌, ◌*◌, ◌/◌, ◌%◌, ◌^◌, ◌<◌, cond, List, length, Some, ◌==◌, slice_index, slice_index_or}
 use Rattle.rows.specs.declared.Shape.{Shape}
 use Rattle.rows.specs.declared.Shape.TheVariants.{Leaf, Pair, Repeat}
 use Rattle.rows.specs.declared.Row.{Row}
@@ -25,13 +25,13 @@ abbrev pub last_in : ℕ → ℕ → List Row → ℕ
 last_in bucket zero rows = 0
 last_in bucket (suc m) rows = cond (bucket_at rows m == bucket) (suc m) (last_in bucket m rows)
 
--- the index of the first m rows: the last row of each bucket, and before each row the last of its bucket
+-- the index of the first m rows: the last row of each bucket, and before each row the last of its bucket. Of rows that
+-- are not in use it says nothing
 pub record Indexed (rows : List Row) (m : ℕ) (index : Index) : Type 0 where
   pub heads_long : length index.heads ≡ 2048
   pub next_long : length index.next ≡ 1024
   pub heads : (bucket : ℕ) → slice_index index.heads bucket ≡ last_in bucket m rows
   pub next : (k : ℕ) → k < m → slice_index index.next k ≡ last_in (bucket_at rows k) k rows
-  pub unused : (k : ℕ) → m ≤ k → slice_index index.next k ≡ 0
 
 -- the index of all rows
 abbrev pub IndexOf : List Row → Index → Type 0

@@ -6,8 +6,11 @@ ghost use Rattle.recompression.specs.Buckets.{Distinct, IndexOf, bucket_of, key_
 
 use rows::{MAX_ROWS, Row, Shape};
 
-// Twice the rows that there can be, so that most buckets have one row or none.
-const BUCKETS: usize = 2048;
+// A bucket is told by so many bits: there are twice as many buckets as there can be rows, so that most have one row or
+// none.
+const BUCKET_BITS: u32 = 11;
+
+const BUCKETS: usize = 1 << BUCKET_BITS;
 
 // An odd number near 2 to the 64th over the golden ratio: multiplied by it, near keys fall far apart.
 const SPREAD: u64 = 0x9E37_79B9_7F4A_7C15;
@@ -42,7 +45,7 @@ fn bucket(shape: Shape) -> usize
     ensures below { result < 2048 }
 {
     // The checker proves that the cast fits; `try_from` would have an error that never comes.
-    (key(shape).wrapping_mul(SPREAD) >> 53) as usize
+    (key(shape).wrapping_mul(SPREAD) >> (u64::BITS - BUCKET_BITS)) as usize
 }
 
 impl Index {
@@ -97,7 +100,6 @@ impl Index {
         while left > count {
             left -= 1;
             self.heads[bucket(rows[left].shape)] = self.next[left];
-            self.next[left] = 0;
         }
     }
 }

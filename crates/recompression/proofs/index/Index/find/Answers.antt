@@ -1,7 +1,7 @@
 -- What is left to show of `find`. Assumes nothing.
 use Rattle.std.proofs.Common.{◌≡◌, ◌-◌, ◌<◌, subst, sym, arith, rules, get_or, false}
 use Rattle.rows.specs.Filing.{alike, blank_row}
-use Rattle.recompression.proofs.BucketFacts.{Walking, walking_first, walking_on, walk_falls, walk_ended}
+use Rattle.recompression.proofs.WalkFacts.{Walking, walking_first, walking_on, walk_falls, walk_ended}
 use Rattle.recompression.proofs.index.Index.find.Goals as goal
 
 pub loop-number-init : goal.loop-number-init

@@ -1,5 +1,5 @@
 -- What the loop of `find` keeps from row to row, and what falls. Assumes nothing.
-use Rattle.recompression.proofs.BucketFacts.{Walking}
+use Rattle.recompression.proofs.WalkFacts.{Walking}
 use Rattle.recompression.proofs.index.Index.find.Given as goal
 
 abbrev pub invariant-loop-number : goal.invariant-loop-number
