@@ -57,7 +57,7 @@ module _ {first : List Row} {old : List ℕ} {most k size : ℕ} {rows : List Ro
           sym (take-take (length first) (length rows) grown shorter) ∙ ap (take (length first)) there.1 ∙ g.begins,
         )
 
-  pub running_done : (size < 2) ⊎ (most ≤ k) → RunThrough first old (Some (get_or (take size numbers) 0 0)) rows
+  pub running_done : (size < 2) ⊎ (most ≤ k) → RunThrough first old (Some (record { number = get_or (take size numbers) 0 0; rounds = k })) rows
   running_done done = (record { numbers = take size numbers; rows = rows; rounds = k }, g.rest ∙ last done, refl, refl)
     where
       last : (size < 2) ⊎ (most ≤ k) → rounds_from (most - k) k (record { numbers = take size numbers; rows = rows }) ≡ Some (record { numbers = take size numbers; rows = rows; rounds = k })

@@ -2,6 +2,7 @@
 use Rattle.std.specs.Prelude.{◌≡◌, ℕ, cond, List, length, take, Some, None, Ok, Err, Option, Result, nat_lt}
 use Rattle.rows.specs.declared.Row.{Row}
 use Rattle.rows.specs.Rounds.{Settled, rounds_from, enough_rounds, number_left}
+use Rattle.recompression.specs.declared.table.settle.Reached.{Reached}
 use Rattle.recompression.specs.declared.table.settle.Unsettled.{Unsettled}
 use Rattle.recompression.specs.declared.table.settle.Unsettled.TheVariants.{TooLong, Full}
 
@@ -9,14 +10,18 @@ use Rattle.recompression.specs.declared.table.settle.Unsettled.TheVariants.{TooL
 abbrev pub all_rounds : List Row → List ℕ → Option Settled
 all_rounds rows numbers = rounds_from (enough_rounds (length numbers)) 0 (record { numbers = numbers; rows = rows })
 
+-- what is answered of a settled string: the number left, and how many rounds were run
+abbrev pub reached : Settled → Reached
+reached s = record { number = number_left s.numbers; rounds = s.rounds }
+
 -- an answer, and the rows that are left
 pub record Settlement : Type 0 where
-  pub answer : Result ℕ Unsettled
+  pub answer : Result Reached Unsettled
   pub rows : List Row
 
 abbrev pub settlement_of : List Row → Option Settled → Settlement
 settlement_of rows None = record { answer = Err Full; rows = rows }
-settlement_of rows (Some s) = record { answer = Ok (number_left s.numbers); rows = s.rows }
+settlement_of rows (Some s) = record { answer = Ok (reached s); rows = s.rows }
 
 -- a string of more than 65,535 numbers is refused, and so is one that would need a row 1,025: the rows are
 -- then as they were. Any other string of known numbers comes to one number, or to 0 when it is empty; of a
@@ -25,6 +30,6 @@ abbrev pub settlement : List Row → List ℕ → Settlement
 settlement rows numbers = cond (nat_lt 65535 (length numbers)) (record { answer = Err TooLong; rows = rows }) (settlement_of rows (all_rounds rows numbers))
 
 -- what the rounds leave before a refusal is undone: rows that begin with those of before
-abbrev pub RunThrough : List Row → List ℕ → Option ℕ → List Row → Type 0
-RunThrough rows numbers (Some n) after = (s : Settled) × (all_rounds rows numbers ≡ Some s) × (n ≡ number_left s.numbers) × (after ≡ s.rows)
+abbrev pub RunThrough : List Row → List ℕ → Option Reached → List Row → Type 0
+RunThrough rows numbers (Some r) after = (s : Settled) × (all_rounds rows numbers ≡ Some s) × (r ≡ reached s) × (after ≡ s.rows)
 RunThrough rows numbers None after = (all_rounds rows numbers ≡ None) × (take (length rows) after ≡ rows)

@@ -11,12 +11,21 @@ use rows::MAX_CELLS;
 // Any 44 rounds on end make a string of two or more known numbers shorter.
 const ROUNDS_PER_NUMBER: u32 = 44;
 
-// Why a string has no number.
+/// What a string of numbers comes to.
+#[derive(Clone, Copy, PartialEq, Eq, Debug)]
+pub struct Reached {
+    /// The number that is left: 0 of an empty string.
+    pub number: u16,
+    /// How many rounds were run, until at most one number was left: 0 of a string of one number or none.
+    pub rounds: u32,
+}
+
+/// Why a string of numbers comes to none.
 #[derive(Clone, Copy, PartialEq, Eq, Debug)]
 pub enum Unsettled {
-    // It has more than 65,535 numbers.
+    /// It has more than 65,535 numbers.
     TooLong,
-    // It needs more rows than the table has room for.
+    /// It needs more rows than the table has room for.
     Full,
 }
 
@@ -30,39 +39,41 @@ fn rounds_for(size: usize) -> u32
 }
 
 impl Table {
-    // Runs the rounds, and answers the number that is left; none where the table is full.
-    fn run_rounds(&mut self, numbers: &mut [u16]) -> Option<u16>
+    // Runs the rounds, and answers what they come to; none where the table is full.
+    fn run_rounds(&mut self, numbers: &mut [u16]) -> Option<Reached>
         requires { length numbers.old ≤ 65535 }
         ensures { RunThrough (rows_in self.old) numbers.old result (rows_in self.new) }
     {
+        let most = rounds_for(numbers.len());
         let mut size = numbers.len();
-        for round in 1..=rounds_for(size) {
-            if size < 2 {
-                break;
-            }
-            size = self.run_round(round, &mut numbers[..size])?;
+        let mut rounds = 0;
+        while size > 1 && rounds < most {
+            rounds += 1;
+            size = self.run_round(rounds, &mut numbers[..size])?;
         }
-        Some(numbers[..size].first().copied().unwrap_or(0))
+        let number = numbers[..size].first().copied().unwrap_or(0);
+        Some(Reached { number, rounds })
     }
 
     // Runs the rounds, and takes the rows that they added off again where the table is full.
-    fn run_or_undo(&mut self, numbers: &mut [u16]) -> Result<u16, Unsettled>
+    fn run_or_undo(&mut self, numbers: &mut [u16]) -> Result<Reached, Unsettled>
         requires { length numbers.old ≤ 65535 }
         ensures answer { result ≡ (settlement_of (rows_in self.old) (all_rounds (rows_in self.old) numbers.old)).answer }
         ensures rows { rows_in self.new ≡ (settlement_of (rows_in self.old) (all_rounds (rows_in self.old) numbers.old)).rows }
     {
         let count = self.count();
-        let number = self.run_rounds(numbers);
-        if number.is_none() {
+        let reached = self.run_rounds(numbers);
+        if reached.is_none() {
             self.truncate(count);
         }
-        number.ok_or(Unsettled::Full)
+        reached.ok_or(Unsettled::Full)
     }
 
-    // The number of a string of numbers, which gets its rows. The work is done in the slice, which is all
-    // zeros afterwards; where it is refused the rows are as they were. The length is tested once, here: a struct over
-    // the slice would hold the `&mut` that `fill` needs back.
-    pub fn settle(&mut self, numbers: &mut [u16]) -> Result<u16, Unsettled>
+    /// The number that a string of numbers comes to, which gets its rows, and how many rounds that took. The work is
+    /// done in the slice, which is all zeros afterwards, also where the string is refused; the rows are then as they
+    /// were.
+    // The length is tested once, here: a struct over the slice would hold the `&mut` that `fill` needs back.
+    pub fn settle(&mut self, numbers: &mut [u16]) -> Result<Reached, Unsettled>
         ensures answer { result ≡ (settlement (rows_in self.old) numbers.old).answer }
         ensures rows { rows_in self.new ≡ (settlement (rows_in self.old) numbers.old).rows }
         ensures cleared { numbers.new ≡ replicate (length numbers.old) 0 }
