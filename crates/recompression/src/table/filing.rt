@@ -1,30 +1,37 @@
 // How a shape gets its number: the first row of that shape, or a row added after the others.
 ghost use Rattle.std.specs.Prelude.{◌≡◌, take, None};
 ghost use Rattle.recompression.specs.Contents.{FilesAs, rows_in, number_in, rows_left};
-ghost use Rattle.rows.specs.Filing.{alike, find, file, numbered, shape_length};
+ghost use Rattle.rows.specs.Filing.{alike, find, file, numbered, shape_length, whole_length};
 
 use crate::table::Table;
 use rows::{MAX_CELLS, MAX_ROWS, Row, Shape};
 
 impl Table {
-    // The number of the first row of that shape.
+    /// The number of the first row of that shape.
     pub fn find(&self, shape: Shape) -> Option<u16>
         ensures { result ≡ find (rows_in self.now) shape }
     {
         self.slots.find(shape)
     }
 
-    // The length that a row of that shape keeps, from the lengths that its parts keep.
-    fn shape_length(&self, shape: Shape) -> u16
-        ensures { result ≡ shape_length (rows_in self.now) shape }
+    /// The length of the strip of a shape, in cells, from the lengths that the rows of its parts keep. It may be more
+    /// than a row can keep.
+    pub fn whole_length(&self, shape: Shape) -> u32
+        ensures { result ≡ whole_length (rows_in self.now) shape }
     {
-        let whole = match shape {
+        match shape {
             Shape::Leaf { .. } => 1,
             Shape::Pair { left, right } => u32::from(self.length_of(left))
                 + u32::from(self.length_of(right)),
             Shape::Repeat { part, times } => u32::from(self.length_of(part)) * u32::from(times),
-        };
-        whole.min(MAX_CELLS as u32) as u16
+        }
+    }
+
+    // The length that a row of that shape keeps: the field has a ceiling.
+    fn shape_length(&self, shape: Shape) -> u16
+        ensures { result ≡ shape_length (rows_in self.now) shape }
+    {
+        self.whole_length(shape).min(MAX_CELLS as u32) as u16
     }
 
     // A row of a shape that no row has, put after the others, made in that round, and its number; none where all
@@ -46,8 +53,9 @@ impl Table {
         Some(count as u16 + 1)
     }
 
-    // The number of a shape: that of the row on the table, or else of a row added for it, made in that
-    // round; none where all slots are in use. A full table is the only way to no number, so that an `Option` says all.
+    /// The number of a shape: that of the row on the table, or else of a row added for it, made in that round. None
+    /// where no row has the shape and all slots are in use: that is the only way to no number, so that an `Option`
+    /// says all.
     pub fn file(&mut self, round: u32, shape: Shape) -> Option<u16>
         ensures number { result ≡ number_in (file round (rows_in self.old) shape) }
         ensures rows { rows_in self.new ≡ rows_left (rows_in self.old) (file round (rows_in self.old) shape) }
@@ -59,7 +67,8 @@ impl Table {
         }
     }
 
-    // Takes the rows after the first `count` off again.
+    /// Takes the rows after the first `count` off again; their slots are blank then. Where there are no more than
+    /// that, nothing changes.
     pub fn truncate(&mut self, count: usize)
         ensures { rows_in self.new ≡ take count (rows_in self.old) }
     {
