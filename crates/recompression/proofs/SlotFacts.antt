@@ -1,15 +1,17 @@
 -- What slots hold after a row is put in or taken off, and how a row in use is read. Assumes nothing.
-use Rattle.std.proofs.Common.{◌≡◌, ℕ, zero, suc, ◌+◌, ◌-◌, ◌<◌, ◌≤◌, true, ◌&&◌, ltb, leb, ◌≢◌, List, [], ◌∷◌, ◌++◌, length, get_or, take, set, replicate, Some, None, sym, refl, ap, ◌∙◌, subst, inl, inr, min, arith, length-set, length-append}
-use Rattle.std.proofs.lemmas.List.{take_more_set, take_at, take_all, take-take, length-replicate, get_or-append_right, length-take-le, get_or-set_other}
-use Rattle.std.proofs.lemmas.Bool.{cases_Bool, cases_lt, cond-true, cond-false, and_from, and_parts, lt-ltb, le-leb, ltb-true, leb-true}
+use Rattle.std.proofs.Common.{◌≡◌, ℕ, ◌+◌, ◌-◌, ◌<◌, ◌≤◌, true, false, ◌&&◌, eqb, ltb, leb, ◌≢◌, List, [], ◌∷◌, ◌++◌, length, get_or, take, set, replicate, Some, None, sym, refl, ap, ◌∙◌, subst, inl, inr, min, arith, length-set, length-append}
+use Rattle.std.proofs.lemmas.List.{take_more_set, take_at, take_all, take-take, length-replicate, get_or-append_right, get_or_append_left, get_or-take, ext_get_or, length-take-le, get_or-set_other}
+use Rattle.std.proofs.lemmas.Bool.{both_ways, cases_Bool, cases_lt, cond-true, cond-false, and_from, and_parts, eqb-true, lt-ltb, le-leb, ltb-true, leb-true}
 use Rattle.rows.specs.declared.Shape.{Shape}
+use Rattle.rows.specs.declared.Shape.TheVariants.{Leaf, Pair, Repeat}
 use Rattle.rows.specs.declared.Row.{Row}
 use Rattle.rows.specs.Filing.{blank_row, row_of, row_made, find}
-use Rattle.recompression.specs.Contents.{row_at}
+use Rattle.recompression.specs.Contents.{UnusedBlank, row_at, with_blanks}
 use Rattle.recompression.specs.Buckets.{IndexOf, Distinct}
-use Rattle.recompression.specs.Tables.{in_use, is_blank_row, LengthsKept, Sound, appended, truncated}
+use Rattle.recompression.specs.Tables.{in_use, is_blank_shape, is_blank_row, LengthsKept, Sound, appended, truncated}
 use Rattle.recompression.specs.declared.index.Index.{Index}
 use Rattle.recompression.specs.declared.slots.Slots.{Slots}
+use Rattle.recompression.specs.declared.table.Table.{Table}
 use Rattle.recompression.proofs.DistinctFacts.{distinct_none, distinct_added, distinct_taken}
 use Rattle.recompression.proofs.Fills.{filled_at}
 use Rattle.recompression.proofs.LengthFacts.{lengths_none, lengths_added, lengths_taken}
@@ -85,6 +87,44 @@ module _ (n : ℕ) (s : Slots) (index : Index) (sound : Sound s) where
     subst (λ rs. IndexOf rs index) (sym truncated_rows) indexed,
     subst Distinct (sym truncated_rows) (distinct_taken n (in_use s) sound.5),
   )
+
+-- a row that passes the test is the blank one
+blank_shape : (shape : Shape) → is_blank_shape shape ≡ true → shape ≡ Leaf 0
+blank_shape (Leaf code) h = ap Leaf (eqb-true code 0 h)
+blank_shape (Pair left right) h = absurd (both_ways false refl h)
+blank_shape (Repeat part times) h = absurd (both_ways false refl h)
+
+pub is_blank : (row : Row) → is_blank_row row ≡ true → row ≡ blank_row
+is_blank row h =
+    let row_of_fields = λ (shape : Shape) (long round : ℕ). let r : Row = record { shape = shape; length = long; round = round } in r in
+    let all = and_parts (is_blank_shape row.shape && eqb row.length 0) (eqb row.round 0) h in
+    let both = and_parts (is_blank_shape row.shape) (eqb row.length 0) all.0 in
+    ap (λ s. row_of_fields s row.length row.round) (blank_shape row.shape both.0)
+    ∙ ap (λ n. row_of_fields (Leaf 0) n row.round) (eqb-true row.length 0 both.1)
+    ∙ ap (row_of_fields (Leaf 0) 0) (eqb-true row.round 0 all.1)
+
+-- the rows in use, and blank slots after them
+module _ (s : Slots) (sound : Sound s) where
+  slot_at : (k : ℕ) → k < length s.rows → get_or s.rows k blank_row ≡ get_or (with_blanks (in_use s)) k blank_row
+  slot_at k h =
+      let count = length_in_use s sound in
+      let blanks = replicate (1024 - length (in_use s)) blank_row in
+      elim (cases_lt k (length (in_use s))) [
+        | inl used ↦ sym (get_or-take s.count s.rows k blank_row (omega arith)) ∙ sym (get_or_append_left (in_use s) blanks blank_row k used)
+        | inr after ↦
+            is_blank (get_or s.rows k blank_row) (sound.2 k (omega arith))
+            ∙ sym (get_or-append_right (in_use s) blanks (length (in_use s)) k blank_row refl after ∙ filled_at (1024 - length (in_use s)) (k - length (in_use s)) blank_row)
+      ]
+
+  same_length : length s.rows ≡ length (with_blanks (in_use s))
+  same_length = let count = length_in_use s sound in simp (length-append, length-replicate) (omega (arith, count, sound.0, sound.1))
+
+  pub slots_blank : s.rows ≡ with_blanks (in_use s)
+  slots_blank = ext_get_or blank_row s.rows (with_blanks (in_use s)) same_length slot_at
+
+-- every table is so, by its type
+pub unused_blank : (t : Table) → UnusedBlank t
+unused_blank t = (t.sound.0, λ k h. t.sound.2 k (let count = length_in_use t.slots t.sound in omega arith))
 
 -- the row of a known number
 pub row_at_known : (rows : List Row) (n : ℕ) → 0 < n → n ≤ length rows → row_at rows n ≡ Some (row_of rows n)

@@ -42,6 +42,13 @@ impl Slots {
         self.count += 1;
     }
 
+    // All slots, in use or not.
+    pub(crate) fn all(&self) -> &[Row]
+        ensures { result.now ≡ self.now.rows }
+    {
+        &self.rows
+    }
+
     // The rows in use.
     pub(crate) fn in_use(&self) -> &[Row]
         requires { self.now.count ≤ 1024 }
