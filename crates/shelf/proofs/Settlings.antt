@@ -12,6 +12,7 @@ use Rattle.rows.specs.declared.Row.{Row}
 use Rattle.rows.specs.Rounds.{Settled, then, rounds_from, leaf_block, leaves, enough_rounds, settle}
 use Rattle.rows.specs.Strips.{strip}
 use Rattle.rows.proofs.NamingFacts.{length_named, file_all_grows}
+use Rattle.recompression.specs.declared.table.settle.Reached.{Reached}
 use Rattle.recompression.specs.declared.table.settle.Unsettled.{Unsettled}
 use Rattle.recompression.specs.declared.table.settle.Unsettled.TheVariants.{TooLong}
 use Rattle.recompression.specs.Settlements.{all_rounds, settlement, settlement_of}
@@ -22,8 +23,8 @@ use Rattle.shelf.specs.Refusals.{refusal_for, refusal_told, ComesTo, StaysWritte
 use Rattle.shelf.specs.WritingOut.{WrittenBack, WritesBack}
 
 -- an answer of the rounds as the shelf gives it
-abbrev pub for_shelf : Result ℕ Unsettled → Result ℕ Refusal
-for_shelf (Ok n) = Ok n
+abbrev pub for_shelf : Result Reached Unsettled → Result ℕ Refusal
+for_shelf (Ok reached) = Ok reached.number
 for_shelf (Err why) = Err (refusal_for why)
 
 -- the rounds on the leaves of a strip are what the strip settles to
@@ -43,7 +44,7 @@ module _ (old rows : List Row) (codes numbers : List ℕ) (filed : leaves old co
       let grown = file_all_grows 0 (map leaf_block codes) old (record { numbers = numbers; rows = rows }) filed in
       ap (take (length old)) grown.grows ∙ take-append-le (length old) old grown.added (omega arith) ∙ take_all (length old) old (omega arith)
 
-  by_outcome : (o : Option Settled) → all_rounds rows numbers ≡ o → (r : Result ℕ Unsettled) (after : List Row) → r ≡ (settlement_of rows o).answer → after ≡ (settlement_of rows o).rows → SettlesAs old codes (for_shelf r) after
+  by_outcome : (o : Option Settled) → all_rounds rows numbers ≡ o → (r : Result Reached Unsettled) (after : List Row) → r ≡ (settlement_of rows o).answer → after ≡ (settlement_of rows o).rows → SettlesAs old codes (for_shelf r) after
   by_outcome None is r after answer left =
       subst (λ x. SettlesAs old codes (for_shelf x) after) (sym answer)
       (refl, settle_from_leaves old rows codes numbers filed ∙ is, ap (take (length old)) left ∙ kept)
@@ -51,7 +52,7 @@ module _ (old rows : List Row) (codes numbers : List ℕ) (filed : leaves old co
       subst (λ x. SettlesAs old codes (for_shelf x) after) (sym answer)
       (s, settle_from_leaves old rows codes numbers filed ∙ is, refl, left)
 
-  pub settled_after : (r : Result ℕ Unsettled) (after : List Row) → r ≡ (settlement rows numbers).answer → after ≡ (settlement rows numbers).rows → SettlesAs old codes (for_shelf r) after
+  pub settled_after : (r : Result Reached Unsettled) (after : List Row) → r ≡ (settlement rows numbers).answer → after ≡ (settlement rows numbers).rows → SettlesAs old codes (for_shelf r) after
   settled_after r after answer left =
       by_outcome (all_rounds rows numbers) refl r after (answer ∙ ap (λ t. t.answer) by_rounds) (left ∙ ap (λ t. t.rows) by_rounds)
 

@@ -15,7 +15,7 @@ pub(crate) fn settle_leaves(table: &mut Table, numbers: &mut [u16]) -> Result<u1
     requires { length numbers.old ≤ 65535 }
     ensures { ComesTo result (rows_in table.new) (settling (rows_in table.old) (all_rounds (rows_in table.old) numbers.old)) }
 {
-    Ok(table.settle(numbers)?)
+    Ok(table.settle(numbers)?.number)
 }
 
 // Writes the leaf numbers of a part of a strip that is known to have it.

@@ -58,7 +58,7 @@ impl<'a, K: CellKind> Printable<'a, K> {
         ensures { SettlesAs (rows_in table.old) (printed K.coded self.now.cells.now) result (rows_in table.new) }
     {
         self.file_leaves(table, numbers)?;
-        Ok(table.settle(numbers)?)
+        Ok(table.settle(numbers)?.number)
     }
 
     // The number of the strip, which gets its rows. A refusal leaves the rows as they were. A method of the table that
