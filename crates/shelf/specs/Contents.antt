@@ -2,7 +2,7 @@
 use Rattle.std.specs.Prelude.{ℕ, cond, List, length, Some, None, Option, nat_le, nat_lt, slice_index}
 use Rattle.rows.specs.declared.Row.{Row}
 use Rattle.rows.specs.Strips.{strip}
-use Rattle.recompression.specs.Contents.{rows_in}
+use Rattle.recompression.specs.Contents.{rows_in, slots_in}
 use Rattle.shelf.specs.declared.Shelf.{Shelf}
 
 -- the number of the kind of its cells
@@ -11,6 +11,10 @@ kind_of s = s.kind
 
 abbrev pub rows_on : Shelf → List Row
 rows_on s = rows_in s.table
+
+-- all slots, in use or not
+abbrev pub slots_on : Shelf → List Row
+slots_on s = slots_in s.table
 
 -- the length of a known number's strip; none for a number that is not known
 abbrev pub length_at : List Row → ℕ → Option ℕ

@@ -2,7 +2,7 @@
 //! strip, over any history of takes, joins, cuts and refusals.
 #![tactic(auto)]
 
-ghost use Rattle.recompression.specs.Contents.{rows_in};
+ghost use Rattle.recompression.specs.Contents.{UnusedBlank, rows_in};
 ghost use Rattle.rows.specs.Lawful.{Lawful};
 
 mod cutting;
@@ -30,4 +30,5 @@ pub struct Shelf {
     table: Table,
     kind: u8,
     ghost lawful: { Lawful (rows_in table) },
+    ghost unused: { UnusedBlank table },
 }

@@ -1,7 +1,8 @@
 // A new shelf, and what can be read of one.
-ghost use Rattle.std.specs.Prelude.{◌≡◌, [], length};
-ghost use Rattle.recompression.specs.Contents.{row_at};
-ghost use Rattle.shelf.specs.Contents.{kind_of, rows_on, length_at, code_at};
+ghost use Rattle.std.specs.Prelude.{◌≡◌, [], length, replicate};
+ghost use Rattle.recompression.specs.Contents.{row_at, with_blanks};
+ghost use Rattle.rows.specs.Filing.{blank_row};
+ghost use Rattle.shelf.specs.Contents.{kind_of, rows_on, slots_on, length_at, code_at};
 
 use crate::Shelf;
 use cells::CellKind;
@@ -12,6 +13,7 @@ impl Shelf {
     // A new shelf of a kind: 1,024 blank rows, none in use.
     pub fn new<K: CellKind>() -> Shelf
         ensures rows { rows_on result ≡ [] }
+        ensures slots { slots_on result ≡ replicate 1024 blank_row }
         ensures kind { kind_of result ≡ K.NUMBER }
     {
         Shelf {
@@ -25,6 +27,14 @@ impl Shelf {
         ensures { result ≡ kind_of self.now }
     {
         self.kind
+    }
+
+    /// All 1,024 slots: the rows in use, in the order of their numbers, and then blank ones.
+    pub fn slots(&self) -> &[Row]
+        ensures shown { result.now ≡ slots_on self.now }
+        ensures blanks { result.now ≡ with_blanks (rows_on self.now) }
+    {
+        self.table.slots()
     }
 
     // How many rows are in use.

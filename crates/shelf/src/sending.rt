@@ -67,7 +67,6 @@ impl Shelf {
     }
 
     // A new shelf of a kind and the requests sent to it, told by a book that is fed the requests alone.
-    #[tactic(auto, using(crate::proofs::Beginning::begun))]
     pub fn begin<K: CellKind>(
         requests: &[Sent<K>],
         answers: &mut [Answer],

@@ -6,6 +6,7 @@ use Rattle.book.proofs.CallFacts.{cut_lawful}
 use Rattle.recompression.specs.Contents.{rows_in}
 use Rattle.recompression.specs.Expansions.{written_out}
 use Rattle.rows.specs.Lawful.{Lawful}
+use Rattle.recompression.proofs.SlotFacts.{unused_blank}
 use Rattle.shelf.specs.Contents.{rows_on}
 use Rattle.shelf.specs.declared.refusal.Refusal.TheVariants.{UnknownNumber}
 use Rattle.shelf.proofs.JoinFacts.{unknown_cut, leaving_cut, small_work_cut, settled_cut}
@@ -63,7 +64,10 @@ invariant_of-self c =
     let all : length (take part.length c.args.work.now) ≡ part.length = simp length-take (omega arith) in
     let settled = settled_cut (rows_on shelf) shelf.lawful c.args.number part.start part.length (length c.args.work.now) told.0 (omega (arith, told.1, inside))
     c.settle_leaves.result (rows_in c.settle_leaves.new.table) c.expand_part.new.out (omega arith) (c.expand_part.ensures ∙ ap (written_out (rows_on shelf) c.args.number part.start) all) c.settle_leaves.ensures in
-    record { lawful = subst Lawful (sym settled.outcome.1) (cut_lawful (rows_on shelf) shelf.lawful c.args.number part.start part.length (length c.args.work.now)) }
+    record {
+      lawful = subst Lawful (sym settled.outcome.1) (cut_lawful (rows_on shelf) shelf.lawful c.args.number part.start part.length (length c.args.work.now));
+      unused = unused_blank c.settle_leaves.new.table;
+    }
 
 pub returns-clause-writes : goal.returns-clause-writes
 returns-clause-writes c =

@@ -4,6 +4,7 @@ use Rattle.std.proofs.lemmas.Result.{err_from_is_err_and}
 use Rattle.book.proofs.CallFacts.{joined_lawful}
 use Rattle.recompression.specs.Contents.{rows_in}
 use Rattle.rows.specs.Lawful.{Lawful}
+use Rattle.recompression.proofs.SlotFacts.{unused_blank}
 use Rattle.shelf.specs.Contents.{rows_on}
 use Rattle.shelf.specs.declared.refusal.Refusal.TheVariants.{UnknownNumber}
 use Rattle.shelf.proofs.JoinFacts.{join_unknown, join_too_long, join_small_work, join_settled}
@@ -54,7 +55,10 @@ invariant_of-self c =
     let right = known_told (rows_on shelf) shelf.lawful c.args.right c.in_ok-right_length.right_length (sym c.in_ok-right_length.ensures.ok_part ∙ c.length_of-2.ensures) in
     let settled = join_settled (rows_on shelf) shelf.lawful c.args.left c.args.right (length c.args.work.now) left.0 right.0 (c.in_ok-left_length.left_length + c.in_ok-right_length.right_length) (omega (arith, left.1, right.1)) (omega arith)
     c.settle_leaves.result (rows_in c.settle_leaves.new.table) c.expand_both.new.numbers (omega arith) c.expand_both.ensures c.settle_leaves.ensures in
-    record { lawful = subst Lawful (sym settled.outcome.1) (joined_lawful (rows_on shelf) shelf.lawful c.args.left c.args.right (length c.args.work.now)) }
+    record {
+      lawful = subst Lawful (sym settled.outcome.1) (joined_lawful (rows_on shelf) shelf.lawful c.args.left c.args.right (length c.args.work.now));
+      unused = unused_blank c.settle_leaves.new.table;
+    }
 
 pub returns-clause-writes : goal.returns-clause-writes
 returns-clause-writes c =

@@ -3,6 +3,7 @@ use Rattle.std.proofs.lemmas.Result.{err_from_is_err_and}
 use Rattle.book.proofs.CallFacts.{taken_other_kind, taken_lawful}
 use Rattle.recompression.specs.Contents.{rows_in}
 use Rattle.rows.specs.Lawful.{Lawful}
+use Rattle.recompression.proofs.SlotFacts.{unused_blank}
 use Rattle.shelf.specs.Contents.{rows_on}
 use Rattle.shelf.specs.declared.refusal.Refusal.TheVariants.{OtherKind}
 use Rattle.shelf.proofs.Settlings.{comes_refused}
@@ -31,7 +32,10 @@ invariant_of-self g c =
     let fit = c.in_ok-of.field-0 in
     let comes = comes_fit K.coded (rows_on shelf) (length c.args.work.now) (eqb shelf.kind K.NUMBER) (sym c.if-not-is_of_kind.ensures)
     fit.cells.now c.args.cells.now c.in_ok-of.ensures.fit fit.short fit.printable c.file.result (rows_in c.file.new.table) c.file.ensures in
-    record { lawful = subst Lawful (sym comes.1) (taken_lawful K.coded (rows_on shelf) c.args.cells.now (length c.args.work.now) shelf.lawful (eqb shelf.kind K.NUMBER)) }
+    record {
+      lawful = subst Lawful (sym comes.1) (taken_lawful K.coded (rows_on shelf) c.args.cells.now (length c.args.work.now) shelf.lawful (eqb shelf.kind K.NUMBER));
+      unused = unused_blank c.file.new.table;
+    }
 
 pub returns-clause-outcome : goal.returns-clause-outcome
 returns-clause-outcome g c =
