@@ -1,5 +1,5 @@
-// Where the row of a shape is found in a few steps: the rows in use are parted into buckets by their shapes, and
-// those of a bucket are chained, from the last to the first. Plain data, as the slots are.
+//! Where the row of a shape is found in a few steps: the rows in use are parted into buckets by their shapes, and
+//! those of a bucket are chained, from the last to the first. Plain data, as the slots are.
 ghost use Rattle.std.specs.Prelude.{◌≡◌, ◌<◌, ◌≤◌, [], ◌∷◌, ◌++◌, length, take};
 ghost use Rattle.rows.specs.Filing.{find};
 ghost use Rattle.recompression.specs.Buckets.{Distinct, IndexOf, bucket_of, key_of};

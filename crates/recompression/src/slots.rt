@@ -1,4 +1,4 @@
-// The slots of a table: plain data, with no invariant, since the table around them has one that says more.
+//! The slots of a table: plain data, with no invariant, since the table around them has one that says more.
 ghost use Rattle.std.specs.Prelude.{◌≡◌, ◌<◌, ◌≤◌, [], ◌∷◌, ◌++◌, take, replicate};
 ghost use Rattle.rows.specs.Filing.{blank_row, find};
 ghost use Rattle.recompression.specs.Buckets.{Distinct, IndexOf};

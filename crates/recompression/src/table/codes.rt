@@ -1,4 +1,4 @@
-// The code at a place of a number's strip, found from row to part.
+//! The code at a place of a number's strip, found from row to part.
 ghost use Rattle.std.specs.Prelude.{◌≡◌};
 ghost use Rattle.recompression.specs.Contents.{rows_in};
 ghost use Rattle.recompression.specs.Codes.{code_in};
@@ -7,7 +7,8 @@ use crate::table::Table;
 use rows::Shape;
 
 impl Table {
-    // The code at a place of a number's strip; absent from the length that its row keeps on.
+    /// The code at a place of a number's strip, counted from 0; none from the length that its row keeps on, and so for
+    /// number 0 and for one that is not known.
     pub fn code_at(&self, number: u16, place: usize) -> Option<u32>
         ensures { result ≡ code_in (rows_in self.now) number place }
     {

@@ -1,4 +1,4 @@
-// A part of a number's strip, written out as the numbers of its leaves.
+//! A part of a number's strip, written out as the numbers of its leaves.
 ghost use Rattle.std.specs.Prelude.{◌≡◌, ◌+◌, ◌%◌, ◌<◌, ◌≤◌, length};
 ghost use Rattle.recompression.specs.Contents.{rows_in};
 ghost use Rattle.recompression.specs.Expansions.{Asked, ExpandsTo, part_length, written_out};
@@ -8,7 +8,7 @@ ghost use Rattle.rows.specs.Filing.{row_of};
 use crate::table::Table;
 use rows::Shape;
 
-// The part asked for goes past the length that the number's row keeps: that of its strip, or 65,535 for a longer one.
+/// The part asked for goes past the length that the number's row keeps: that of its strip, or 65,535 for a longer one.
 #[derive(Clone, Copy, PartialEq, Eq, Debug)]
 pub struct OutOfStrip;
 
@@ -21,8 +21,8 @@ fn place_in_copy(place: usize, copy_length: usize) -> usize
 }
 
 impl Table {
-    // Fills `out` with the leaf numbers of the places from `start` on of a number's strip; `out` is left
-    // alone where these go past the length that the number's row keeps.
+    /// Fills `out` with the leaf numbers of the places from `start` on of a number's strip; `out` is left alone where
+    /// these go past the length that the number's row keeps. Number 0 and a number that is not known have no place.
     pub fn expand(&self, number: u16, start: usize, out: &mut [u16]) -> Result<(), OutOfStrip>
         ensures { ExpandsTo (rows_in self.now) number start out.old result out.new }
     {

@@ -1,4 +1,4 @@
-// How a shape gets its number: the first row of that shape, or a row added after the others.
+//! How a shape gets its number: the first row of that shape, or a row added after the others.
 ghost use Rattle.std.specs.Prelude.{◌≡◌, take, None};
 ghost use Rattle.recompression.specs.Contents.{FilesAs, rows_in, number_in, rows_left};
 ghost use Rattle.rows.specs.Filing.{alike, find, file, numbered, shape_length, whole_length};

@@ -1,4 +1,4 @@
-// Even rounds: every left number followed by a right number becomes a pair.
+//! Even rounds: every left number followed by a right number becomes a pair.
 ghost use Rattle.std.specs.Prelude.{◌≡◌, ◌<◌, ◌∷◌};
 ghost use Rattle.recompression.specs.InPlace.{IsFirst, Partner};
 ghost use Rattle.rows.specs.Rounds.{is_left, left_at, pairs};

@@ -1,4 +1,4 @@
-// A new table, and what can be read of one.
+//! A new table, and what can be read of one.
 ghost use Rattle.std.specs.Prelude.{◌≡◌, [], length, replicate};
 ghost use Rattle.recompression.specs.Contents.{rows_in, row_at, slots_in, with_blanks};
 ghost use Rattle.rows.specs.Filing.{blank_row, row_of};

@@ -1,5 +1,5 @@
-// The rounds, run in place on a string of numbers until at most one is left. For known numbers that is always
-// reached; of others, which no shelf passes on, the rounds may leave more, and the first of these is answered.
+//! The rounds, run in place on a string of numbers until at most one is left. For known numbers that is always
+//! reached; of others, which no shelf passes on, the rounds may leave more, and the first of these is answered.
 ghost use Rattle.std.specs.Prelude.{◌≡◌, ◌≤◌, length, replicate};
 ghost use Rattle.recompression.specs.Contents.{rows_in};
 ghost use Rattle.rows.specs.Rounds.{enough_rounds};
@@ -16,7 +16,7 @@ const ROUNDS_PER_NUMBER: u32 = 44;
 pub struct Reached {
     /// The number that is left: 0 of an empty string.
     pub number: u16,
-    /// How many rounds were run, until at most one number was left: 0 of a string of one number or none.
+    /// How many rounds were run: 0 of a string of one number or none.
     pub rounds: u32,
 }
 

@@ -1,4 +1,4 @@
-// Odd rounds: every longest stretch of two or more equal numbers becomes a repeat.
+//! Odd rounds: every longest stretch of two or more equal numbers becomes a repeat.
 ghost use Rattle.std.specs.Prelude.{◌≡◌, ◌<◌, ◌≤◌, ◌∷◌, length, ◌==◌};
 ghost use Rattle.std.specs.List.{prefix_len};
 ghost use Rattle.recompression.specs.InPlace.{IsFirst};
