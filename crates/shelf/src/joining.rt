@@ -12,7 +12,7 @@ use crate::Shelf;
 use crate::leaves::{expand_part, settle_leaves};
 use crate::refusal::Refusal;
 use crate::work::WorkArea;
-use recompression::table::Table;
+use recompression::Table;
 use rows::MAX_CELLS;
 
 // Writes the leaf numbers of two strips, one after the other.

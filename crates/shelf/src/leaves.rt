@@ -8,7 +8,7 @@ ghost use Rattle.rows.specs.Filing.{row_of};
 ghost use Rattle.shelf.specs.Refusals.{ComesTo};
 
 use crate::Refusal;
-use recompression::table::Table;
+use recompression::Table;
 
 // The number of a string of leaf numbers, which gets its rows.
 pub(crate) fn settle_leaves(table: &mut Table, numbers: &mut [u16]) -> Result<u16, Refusal>

@@ -17,7 +17,7 @@ mod taking;
 mod work;
 mod writing;
 
-use recompression::table::Table;
+use recompression::Table;
 pub use refusal::Refusal;
 pub use request::{Answer, Request, Sent};
 

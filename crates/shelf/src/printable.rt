@@ -8,7 +8,7 @@ ghost use Rattle.shelf.specs.Refusals.{ComesTo, Unfit};
 
 use crate::refusal::Refusal;
 use cells::{CellKind, first_unprintable};
-use recompression::table::Table;
+use recompression::Table;
 use rows::{MAX_CELLS, Shape};
 
 // Cells that all have a code, and of which a strip can have so many. The work places stand beside them: a struct of

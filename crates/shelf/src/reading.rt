@@ -6,7 +6,7 @@ ghost use Rattle.shelf.specs.Contents.{kind_of, rows_on, slots_on, length_at, co
 
 use crate::Shelf;
 use cells::CellKind;
-use recompression::table::Table;
+use recompression::Table;
 use rows::Row;
 
 impl Shelf {

@@ -3,7 +3,7 @@
 ghost use Rattle.std.specs.Prelude.{◌≡◌, Some};
 ghost use Rattle.shelf.specs.Refusals.{refusal_number, refusal_sentence, refusal_for};
 
-use recompression::table::Unsettled;
+use recompression::Unsettled;
 use std::fmt;
 
 #[derive(Clone, Copy, PartialEq, Eq, Debug)]

@@ -2,7 +2,7 @@
 use Rattle.std.proofs.Common.{length}
 use Rattle.shelf.specs.Contents.{kind_of, rows_on}
 use Rattle.shelf.proofs.Beginning.{begun}
-use Rattle.shelf.proofs.shelf.Shelf.begin.Goals as goal
+use Rattle.shelf.proofs.Shelf.begin.Goals as goal
 
 pub returns-clause-begun : goal.returns-clause-begun
 returns-clause-begun g c =
