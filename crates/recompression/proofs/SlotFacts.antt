@@ -21,14 +21,14 @@ pub none_in_use : (s : Slots) → s.count ≡ 0 → in_use s ≡ []
 none_in_use s none = ap (λ n. take n s.rows) none
 
 pub blank_sound : (s : Slots) → s.rows ≡ replicate 1024 blank_row → s.count ≡ 0 → IndexOf [] s.index → Sound s
-blank_sound s blank none indexed = (
-  ap length blank,
-  omega arith,
-  λ k h. ap (λ rows. is_blank_row (get_or rows k blank_row)) blank ∙ rw (filled_at 1024 k blank_row),
-  subst LengthsKept (sym (none_in_use s none)) lengths_none,
-  subst (λ rows. IndexOf rows s.index) (sym (none_in_use s none)) indexed,
-  subst Distinct (sym (none_in_use s none)) distinct_none,
-)
+blank_sound s blank none indexed = record {
+  long = ap length blank;
+  few = omega arith;
+  blank = λ k h. ap (λ rows. is_blank_row (get_or rows k blank_row)) blank ∙ rw (filled_at 1024 k blank_row);
+  lengths = subst LengthsKept (sym (none_in_use s none)) lengths_none;
+  indexed = subst (λ rows. IndexOf rows s.index) (sym (none_in_use s none)) indexed;
+  distinct = subst Distinct (sym (none_in_use s none)) distinct_none;
+}
 
 -- a row that is put at i leaves those after it
 blank_after : (rows : List Row) (i : ℕ) (row : Row) → ((k : ℕ) → i ≤ k → is_blank_row (get_or rows k blank_row) ≡ true)
@@ -38,7 +38,7 @@ blank_after rows i row after k h =
     rw get_or-set_other (after k (omega arith))
 
 pub length_in_use : (s : Slots) → Sound s → length (in_use s) ≡ s.count
-length_in_use s sound = length-take-le s.count s.rows (omega arith)
+length_in_use s sound = length-take-le s.count s.rows (omega (arith, sound.long, sound.few))
 
 pub appended_rows : (s : Slots) (row : Row) (index : Index) → s.count < 1024 → Sound s → in_use (appended s row index) ≡ in_use s ++ (row ∷ [])
 appended_rows s row index room sound = take_more_set s.rows s.count row (omega arith)
@@ -47,14 +47,15 @@ pub appended_sound : (s : Slots) (k : ℕ) (shape : Shape) (index : Index) → s
     → IndexOf (in_use s ++ (row_made k (in_use s) shape ∷ [])) index → Sound (appended s (row_made k (in_use s) shape) index)
 appended_sound s k shape index room sound none indexed =
     let row = row_made k (in_use s) shape in
-    let rows = appended_rows s row index room sound in (
-      length-set s.rows s.count row ∙ sound.0,
-      omega arith,
-      blank_after s.rows s.count row sound.2,
-      subst LengthsKept (sym rows) (lengths_added (in_use s) k shape sound.3),
-      subst (λ rs. IndexOf rs index) (sym rows) indexed,
-      subst Distinct (sym rows) (distinct_added (in_use s) row sound.5 none),
-    )
+    let rows = appended_rows s row index room sound in
+    record {
+      long = length-set s.rows s.count row ∙ sound.long;
+      few = omega arith;
+      blank = blank_after s.rows s.count row sound.blank;
+      lengths = subst LengthsKept (sym rows) (lengths_added (in_use s) k shape sound.lengths);
+      indexed = subst (λ rs. IndexOf rs index) (sym rows) indexed;
+      distinct = subst Distinct (sym rows) (distinct_added (in_use s) row sound.distinct none);
+    }
 
 -- slots cut off after the first n rows in use
 module _ (n : ℕ) (s : Slots) (index : Index) (sound : Sound s) where
@@ -79,14 +80,14 @@ module _ (n : ℕ) (s : Slots) (index : Index) (sound : Sound s) where
       ap is_blank_row (get_or-append_right (take (min s.count n) s.rows) (replicate more blank_row) (min s.count n) k blank_row front_long past ∙ filled_at more (k - min s.count n) blank_row)
 
   pub truncated_sound : IndexOf (take n (in_use s)) index → Sound (truncated n s index)
-  truncated_sound indexed = (
-    simp (length-append, length-replicate) (omega (arith, front_long, sound.0, sound.1)),
-    omega (arith, sound.1),
-    blank_from,
-    subst LengthsKept (sym truncated_rows) (lengths_taken n (in_use s) sound.3),
-    subst (λ rs. IndexOf rs index) (sym truncated_rows) indexed,
-    subst Distinct (sym truncated_rows) (distinct_taken n (in_use s) sound.5),
-  )
+  truncated_sound indexed = record {
+    long = simp (length-append, length-replicate) (omega (arith, front_long, sound.long, sound.few));
+    few = omega (arith, sound.few);
+    blank = blank_from;
+    lengths = subst LengthsKept (sym truncated_rows) (lengths_taken n (in_use s) sound.lengths);
+    indexed = subst (λ rs. IndexOf rs index) (sym truncated_rows) indexed;
+    distinct = subst Distinct (sym truncated_rows) (distinct_taken n (in_use s) sound.distinct);
+  }
 
 -- a row that passes the test is the blank one
 blank_shape : (shape : Shape) → is_blank_shape shape ≡ true → shape ≡ Leaf 0
@@ -112,19 +113,19 @@ module _ (s : Slots) (sound : Sound s) where
       elim (cases_lt k (length (in_use s))) [
         | inl used ↦ sym (get_or-take s.count s.rows k blank_row (omega arith)) ∙ sym (get_or_append_left (in_use s) blanks blank_row k used)
         | inr after ↦
-            is_blank (get_or s.rows k blank_row) (sound.2 k (omega arith))
+            is_blank (get_or s.rows k blank_row) (sound.blank k (omega arith))
             ∙ sym (get_or-append_right (in_use s) blanks (length (in_use s)) k blank_row refl after ∙ filled_at (1024 - length (in_use s)) (k - length (in_use s)) blank_row)
       ]
 
   same_length : length s.rows ≡ length (with_blanks (in_use s))
-  same_length = let count = length_in_use s sound in simp (length-append, length-replicate) (omega (arith, count, sound.0, sound.1))
+  same_length = let count = length_in_use s sound in simp (length-append, length-replicate) (omega (arith, count, sound.long, sound.few))
 
   pub slots_blank : s.rows ≡ with_blanks (in_use s)
   slots_blank = ext_get_or blank_row s.rows (with_blanks (in_use s)) same_length slot_at
 
 -- every table is so, by its type
 pub unused_blank : (t : Table) → UnusedBlank t
-unused_blank t = (t.sound.0, λ k h. t.sound.2 k (let count = length_in_use t.slots t.sound in omega arith))
+unused_blank t = (t.sound.long, λ k h. t.sound.blank k (let count = length_in_use t.slots t.sound in omega arith))
 
 -- the row of a known number
 pub row_at_known : (rows : List Row) (n : ℕ) → 0 < n → n ≤ length rows → row_at rows n ≡ Some (row_of rows n)

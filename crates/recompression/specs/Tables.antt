@@ -29,14 +29,13 @@ LengthsKept rows = (n : ℕ) → (row_of rows n).length ≡ min 65535 (length (s
 
 -- there are 1,024 slots, those after the rows in use are blank, and the rows in use keep their lengths, are indexed
 -- and are all of different shapes
-abbrev pub Sound : Slots → Type 0
-Sound s =
-    (length s.rows ≡ 1024)
-    × (s.count ≤ 1024)
-    × ((k : ℕ) → s.count ≤ k → is_blank_row (slice_index_or s.rows k blank_row) ≡ true)
-    × LengthsKept (in_use s)
-    × IndexOf (in_use s) s.index
-    × Distinct (in_use s)
+pub record Sound (s : Slots) : Type 0 where
+  pub long : length s.rows ≡ 1024
+  pub few : s.count ≤ 1024
+  pub blank : (k : ℕ) → s.count ≤ k → is_blank_row (slice_index_or s.rows k blank_row) ≡ true
+  pub lengths : LengthsKept (in_use s)
+  pub indexed : IndexOf (in_use s) s.index
+  pub distinct : Distinct (in_use s)
 
 -- slots with a row put after those in use, and the index that they then have
 abbrev pub appended : Slots → Row → Index → Slots
