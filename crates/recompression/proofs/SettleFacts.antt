@@ -1,12 +1,12 @@
 -- Rounds run one after another in place, and what the last of them leaves. Assumes nothing.
-use Rattle.std.proofs.Common.{◌≡◌, ℕ, suc, ◌+◌, ◌-◌, ◌%◌, ◌<◌, ◌≤◌, eqb, ◌⊎◌, List, ◌++◌, length, get_or, take, drop, Some, None, sym, refl, ap, ◌∙◌, subst, inl, inr, arith, length-take, length-append, length-drop}
+use Rattle.std.proofs.Common.{◌≡◌, ℕ, suc, ◌+◌, ◌-◌, ◌%◌, ◌<◌, ◌≤◌, eqb, ◌⊎◌, List, ◌++◌, length, take, drop, Some, None, sym, refl, ap, ◌∙◌, subst, inl, inr, arith, length-take, length-append, length-drop}
 use Rattle.std.proofs.lemmas.List.{take-take, take-append-le, length-take-le}
 use Rattle.std.proofs.lemmas.Bool.{cond-true, cond-false, eq-eqb, ne_eqb}
 use Rattle.rows.specs.declared.Row.{Row}
 use Rattle.rows.specs.Rounds.{blocks, stretches, pairs, then, file_all, rounds_from}
 use Rattle.rows.proofs.NamingFacts.{file_all_grows, rounds_stop, rounds_go, rounds_spent}
 use Rattle.recompression.specs.InPlace.{Ran}
-use Rattle.recompression.specs.Settlements.{all_rounds, RunThrough}
+use Rattle.recompression.specs.Settlements.{all_rounds, reached_with, RunThrough}
 use Rattle.recompression.proofs.RoundFacts.{begins_with_more}
 
 pub odd_blocks : (k : ℕ) (s : List ℕ) → k % 2 ≡ 1 → stretches s ≡ blocks k s
@@ -57,7 +57,7 @@ module _ {first : List Row} {old : List ℕ} {most k size : ℕ} {rows : List Ro
           sym (take-take (length first) (length rows) grown shorter) ∙ ap (take (length first)) there.1 ∙ g.begins,
         )
 
-  pub running_done : (size < 2) ⊎ (most ≤ k) → RunThrough first old (Some (record { number = get_or (take size numbers) 0 0; rounds = k })) rows
+  pub running_done : (size < 2) ⊎ (most ≤ k) → RunThrough first old (Some (reached_with (take size numbers) k)) rows
   running_done done = (record { numbers = take size numbers; rows = rows; rounds = k }, g.rest ∙ last done, refl, refl)
     where
       last : (size < 2) ⊎ (most ≤ k) → rounds_from (most - k) k (record { numbers = take size numbers; rows = rows }) ≡ Some (record { numbers = take size numbers; rows = rows; rounds = k })

@@ -10,9 +10,12 @@ use Rattle.recompression.specs.declared.table.settle.Unsettled.TheVariants.{TooL
 abbrev pub all_rounds : List Row → List ℕ → Option Settled
 all_rounds rows numbers = rounds_from (enough_rounds (length numbers)) 0 (record { numbers = numbers; rows = rows })
 
--- what is answered of a settled string: the number left, and how many rounds were run
+-- what is answered of a string: the number left, and how many rounds were run
+abbrev pub reached_with : List ℕ → ℕ → Reached
+reached_with numbers rounds = record { number = number_left numbers; rounds = rounds }
+
 abbrev pub reached : Settled → Reached
-reached s = record { number = number_left s.numbers; rounds = s.rounds }
+reached s = reached_with s.numbers s.rounds
 
 -- an answer, and the rows that are left
 pub record Settlement : Type 0 where

@@ -3,7 +3,7 @@
 ghost use Rattle.std.specs.Prelude.{◌≡◌, ◌≤◌, length, replicate};
 ghost use Rattle.recompression.specs.Contents.{rows_in};
 ghost use Rattle.rows.specs.Rounds.{enough_rounds};
-ghost use Rattle.recompression.specs.Settlements.{RunThrough, all_rounds, settlement, settlement_of};
+ghost use Rattle.recompression.specs.Settlements.{RunThrough, all_rounds, reached_with, settlement, settlement_of};
 
 use crate::table::Table;
 use rows::MAX_CELLS;
@@ -38,6 +38,16 @@ fn rounds_for(size: usize) -> u32
     ROUNDS_PER_NUMBER * size as u32
 }
 
+impl Reached {
+    // What a string has come to after so many rounds.
+    fn of(numbers: &[u16], rounds: u32) -> Reached
+        ensures { result ≡ reached_with numbers.now rounds }
+    {
+        let number = numbers.first().copied().unwrap_or(0);
+        Reached { number, rounds }
+    }
+}
+
 impl Table {
     // Runs the rounds, and answers what they come to; none where the table is full.
     fn run_rounds(&mut self, numbers: &mut [u16]) -> Option<Reached>
@@ -51,8 +61,7 @@ impl Table {
             rounds += 1;
             size = self.run_round(rounds, &mut numbers[..size])?;
         }
-        let number = numbers[..size].first().copied().unwrap_or(0);
-        Some(Reached { number, rounds })
+        Some(Reached::of(&numbers[..size], rounds))
     }
 
     // Runs the rounds, and takes the rows that they added off again where the table is full.

@@ -1,8 +1,7 @@
 -- What is left to show of `run_rounds`. Assumes nothing.
-use Rattle.std.proofs.Common.{◌≡◌, ◌+◌, get_or, take, Some, inl, inr, sym, subst, ◌∙◌, rules, arith}
-use Rattle.std.proofs.lemmas.Option.{gets}
+use Rattle.std.proofs.Common.{◌+◌, take, Some, inl, inr, sym, subst, ◌∙◌, arith}
 use Rattle.std.proofs.lemmas.List.{length-take-le}
-use Rattle.recompression.specs.Settlements.{RunThrough}
+use Rattle.recompression.specs.Settlements.{RunThrough, reached_with}
 use Rattle.recompression.specs.Tables.{in_use}
 use Rattle.recompression.proofs.SettleFacts.{running_more, running_full, running_done}
 use Rattle.recompression.proofs.table.Table.run_rounds.Goals as goal
@@ -24,12 +23,9 @@ pub returns : goal.returns
 returns c =
     let l = c.loop-size in
     let first = in_use c.args.self.now.slots in
-    let old = c.args.numbers.now in
-    let number = get_or (take l.size l.numbers) 0 0 in
-    let left : c.unwrap_or-number.result ≡ number = search (rules, gets) in
-    let done : RunThrough first old (Some (record { number = number; rounds = l.rounds })) (in_use l.self.slots) =
+    let done : RunThrough first c.args.numbers.now (Some (reached_with (take l.size l.numbers) l.rounds)) (in_use l.self.slots) =
     elim c.loop-size-test.branch [
       | then-loop-size-test+else-rounds-most w ↦ running_done l.invariant (inr (omega arith))
       | else-loop-size-test w ↦ running_done l.invariant (inl (omega arith))
     ] in
-    subst (λ n. RunThrough first old (Some (record { number = n; rounds = l.rounds })) (in_use l.self.slots)) (sym left) done
+    subst (λ r. RunThrough first c.args.numbers.now (Some r) (in_use l.self.slots)) (sym c.of.ensures) done
