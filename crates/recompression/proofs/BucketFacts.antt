@@ -4,7 +4,7 @@ use Rattle.std.proofs.lemmas.List.{get_or_append_left, get_or_push, get_or-take,
 use Rattle.std.proofs.lemmas.Bool.{cases_eq, cond-true, cond-false, eq-eqb, ne_eqb}
 use Rattle.rows.specs.declared.Row.{Row}
 use Rattle.rows.specs.Filing.{blank_row}
-use Rattle.recompression.specs.Buckets.{bucket_of, bucket_at, last_in, Indexed, IndexOf}
+use Rattle.recompression.specs.Buckets.{bucket_of, bucket_at, last_in, Indexed, IndexOf, linked, unlinked}
 use Rattle.recompression.specs.declared.index.Index.{Index}
 use Rattle.recompression.proofs.Fills.{filled_at}
 
@@ -107,7 +107,7 @@ indexed_more rows m bucket index indexed room below is =
 
 pub index_added : (rows : List Row) (row : Row) (bucket : ℕ) (index : Index) → IndexOf rows index → length rows < 1024 → bucket < 2048
     → bucket ≡ bucket_of row.shape
-    → IndexOf (rows ++ (row ∷ [])) (record { heads = set index.heads bucket (length rows + 1); next = set index.next (length rows) (get_or index.heads bucket 0) })
+    → IndexOf (rows ++ (row ∷ [])) (linked bucket (length rows) index)
 index_added rows row bucket index indexed room below is =
     let m = length rows in
     let more = rows ++ (row ∷ []) in
@@ -120,7 +120,7 @@ index_added rows row bucket index indexed room below is =
 
 -- one row less
 pub indexed_less : (rows : List Row) (m bucket : ℕ) (index : Index) → Indexed rows (suc m) index → m < 1024 → bucket < 2048 → bucket ≡ bucket_at rows m
-    → Indexed rows m (record { heads = set index.heads bucket (get_or index.next m 0); next = index.next })
+    → Indexed rows m (unlinked bucket m index)
 indexed_less rows m bucket index indexed room below is =
     let before = get_or index.next m 0 in
     let heads_long = indexed.heads_long in

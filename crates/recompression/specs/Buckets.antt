@@ -1,5 +1,5 @@
 -- Rows parted into buckets by their shapes, and the index that keeps the chain of each bucket. Assumes nothing.
-use Rattle.std.specs.Prelude.{◌≡◌, ℕ, zero, suc, ◌+◌, ◌*◌, ◌/◌, ◌%◌, ◌^◌, ◌<◌, cond, List, length, Some, ◌==◌, slice_index, slice_index_or}
+use Rattle.std.specs.Prelude.{◌≡◌, ℕ, zero, suc, ◌+◌, ◌*◌, ◌/◌, ◌%◌, ◌^◌, ◌<◌, cond, List, length, Some, ◌==◌, slice_index, slice_index_or, slice_set}
 use Rattle.rows.specs.declared.Shape.{Shape}
 use Rattle.rows.specs.declared.Shape.TheVariants.{Leaf, Pair, Repeat}
 use Rattle.rows.specs.declared.Row.{Row}
@@ -36,6 +36,13 @@ pub record Indexed (rows : List Row) (m : ℕ) (index : Index) : Type 0 where
 -- the index of all rows
 abbrev pub IndexOf : List Row → Index → Type 0
 IndexOf rows index = Indexed rows (length rows) index
+
+-- the row at a place becomes the last of a bucket, or the one before it does
+abbrev pub linked : ℕ → ℕ → Index → Index
+linked bucket k index = record { heads = slice_set index.heads bucket (k + 1); next = slice_set index.next k (slice_index index.heads bucket) }
+
+abbrev pub unlinked : ℕ → ℕ → Index → Index
+unlinked bucket k index = record { heads = slice_set index.heads bucket (slice_index index.next k); next = index.next }
 
 -- no two rows are alike: each is the first of its shape
 abbrev pub Distinct : List Row → Type 0

@@ -1,8 +1,8 @@
 //! Where the row of a shape is found in a few steps: the rows in use are parted into buckets by their shapes, and
 //! those of a bucket are chained, from the last to the first. Plain data, as the slots are.
-ghost use Rattle.std.specs.Prelude.{◌≡◌, ◌<◌, ◌≤◌, [], ◌∷◌, ◌++◌, length, take};
-ghost use Rattle.rows.specs.Filing.{find};
-ghost use Rattle.recompression.specs.Buckets.{Distinct, IndexOf, bucket_of, key_of};
+ghost use Rattle.std.specs.Prelude.{◌≡◌, ◌-◌, ◌<◌, ◌≤◌, [], ◌∷◌, ◌++◌, length, take, slice_index, slice_index_or};
+ghost use Rattle.rows.specs.Filing.{alike, blank_row, find};
+ghost use Rattle.recompression.specs.Buckets.{Distinct, IndexOf, bucket_of, key_of, linked, unlinked};
 
 use rows::{MAX_ROWS, Row, Shape};
 
@@ -48,6 +48,15 @@ fn bucket(shape: Shape) -> usize
     (key(shape).wrapping_mul(SPREAD) >> (u64::BITS - BUCKET_BITS)) as usize
 }
 
+// Whether the row of a number has that shape.
+fn has_shape(rows: &[Row], number: u16, shape: Shape) -> bool
+    requires some { 0 < number }
+    requires known { number ≤ length rows.now }
+    ensures { result ≡ alike (slice_index_or rows.now (number - 1) blank_row).shape shape }
+{
+    rows[usize::from(number) - 1].shape == shape
+}
+
 impl Index {
     // The index of no rows.
     pub(crate) fn new() -> Index
@@ -57,6 +66,35 @@ impl Index {
             heads: [0; BUCKETS],
             next: [0; MAX_ROWS],
         }
+    }
+
+    // The row before one in its bucket.
+    fn before(&self, number: u16) -> u16
+        requires some { 0 < number }
+        requires few { number ≤ 1024 }
+        ensures { result ≡ slice_index self.now.next (number - 1) }
+    {
+        self.next[usize::from(number) - 1]
+    }
+
+    // Makes the row at a place the last of a bucket.
+    fn link(&mut self, bucket: usize, place: usize)
+        requires below { bucket < 2048 }
+        requires room { place < 1024 }
+        ensures { self.new ≡ linked bucket place self.old }
+    {
+        self.next[place] = self.heads[bucket];
+        // The checker proves that the cast fits; `try_from` would have an error that never comes.
+        self.heads[bucket] = place as u16 + 1;
+    }
+
+    // Makes the row before the one at a place the last of a bucket.
+    fn unlink(&mut self, bucket: usize, place: usize)
+        requires below { bucket < 2048 }
+        requires few { place < 1024 }
+        ensures { self.new ≡ unlinked bucket place self.old }
+    {
+        self.heads[bucket] = self.next[place];
     }
 
     // The number of the row of that shape: the rows of its bucket are tried, from the last to the first. Since no two
@@ -69,11 +107,10 @@ impl Index {
     {
         let mut number = self.heads[bucket(shape)];
         while number > 0 {
-            let place = usize::from(number) - 1;
-            if rows[place].shape == shape {
+            if has_shape(rows, number, shape) {
                 return Some(number);
             }
-            number = self.next[place];
+            number = self.before(number);
         }
         None
     }
@@ -84,10 +121,7 @@ impl Index {
         requires room { length rows.now < 1024 }
         ensures { IndexOf (rows.now ++ (row ∷ [])) self.new }
     {
-        let bucket = bucket(row.shape);
-        self.next[rows.len()] = self.heads[bucket];
-        // The checker proves that the cast fits; `try_from` would have an error that never comes.
-        self.heads[bucket] = rows.len() as u16 + 1;
+        self.link(bucket(row.shape), rows.len());
     }
 
     // Takes the rows after the first `count` out of their buckets, from the last on.
@@ -99,7 +133,7 @@ impl Index {
         let mut left = rows.len();
         while left > count {
             left -= 1;
-            self.heads[bucket(rows[left].shape)] = self.next[left];
+            self.unlink(bucket(rows[left].shape), left);
         }
     }
 }

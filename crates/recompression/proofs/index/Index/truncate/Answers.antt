@@ -1,5 +1,5 @@
 -- What is left to show of `truncate`. Assumes nothing.
-use Rattle.std.proofs.Common.{◌≡◌, suc, ◌-◌, subst, arith}
+use Rattle.std.proofs.Common.{◌≡◌, suc, ◌-◌, subst, sym, arith}
 use Rattle.recompression.specs.Buckets.{Indexed}
 use Rattle.recompression.proofs.BucketFacts.{indexed_less, index_taken}
 use Rattle.recompression.proofs.index.Index.truncate.Goals as goal
@@ -12,8 +12,8 @@ loop-left-preserved c =
     record {
       within = omega arith;
       enough = omega arith;
-      indexed = indexed_less rows (l.left - 1) c.bucket.result l.self (subst (λ n. Indexed rows n l.self) one_more l.invariant.indexed) (omega arith) c.bucket.ensures.below
-          c.bucket.ensures.value;
+      indexed = subst (Indexed rows (l.left - 1)) (sym c.unlink.ensures)
+          (indexed_less rows (l.left - 1) c.bucket.result l.self (subst (λ n. Indexed rows n l.self) one_more l.invariant.indexed) (omega arith) c.bucket.ensures.below c.bucket.ensures.value);
     }
 
 pub returns : goal.returns
