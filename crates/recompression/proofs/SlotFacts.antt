@@ -125,7 +125,10 @@ module _ (s : Slots) (sound : Sound s) where
 
 -- every table is so, by its type
 pub unused_blank : (t : Table) → UnusedBlank t
-unused_blank t = (t.sound.long, λ k h. t.sound.blank k (let count = length_in_use t.slots t.sound in omega arith))
+unused_blank t = record {
+  long = t.sound.long;
+  blank = λ k h. t.sound.blank k (let count = length_in_use t.slots t.sound in omega arith);
+}
 
 -- the row of a known number
 pub row_at_known : (rows : List Row) (n : ℕ) → 0 < n → n ≤ length rows → row_at rows n ≡ Some (row_of rows n)

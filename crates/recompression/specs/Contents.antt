@@ -19,8 +19,9 @@ with_blanks rows = rows ++ replicate (1024 - length rows) blank_row
 
 -- there are 1,024 slots, and those after the rows in use are blank, slot by slot: a type that holds a table can keep
 -- this of it
-abbrev pub UnusedBlank : Table → Type 0
-UnusedBlank t = (length (slots_in t) ≡ 1024) × ((k : ℕ) → length (rows_in t) ≤ k → is_blank_row (slice_index_or (slots_in t) k blank_row) ≡ true)
+pub record UnusedBlank (t : Table) : Type 0 where
+  pub long : length (slots_in t) ≡ 1024
+  pub blank : (k : ℕ) → length (rows_in t) ≤ k → is_blank_row (slice_index_or (slots_in t) k blank_row) ≡ true
 
 -- the row of a known number; none for number 0 and for one that is not known
 abbrev pub row_at : List Row → ℕ → Option Row

@@ -68,7 +68,7 @@ impl Index {
         }
     }
 
-    // The row before one in its bucket.
+    // The number of the row before one in its bucket; 0 where it is the first there.
     fn before(&self, number: u16) -> u16
         requires some { 0 < number }
         requires few { number ≤ 1024 }
