@@ -1,5 +1,5 @@
 -- What the kind of days says of its cells and codes. Assumes nothing.
-use Rattle.std.specs.Prelude.{ℕ, ◌+◌, ◌*◌, ◌/◌, ◌%◌, Bool, cond, ◌&&◌, Some, None, Option, nat_le, nat_lt}
+use Rattle.std.specs.Prelude.{ℕ, min, ◌+◌, ◌*◌, ◌/◌, ◌%◌, Bool, cond, ◌&&◌, Some, None, Option, nat_le, nat_lt}
 use Rattle.cells.specs.declared.day.Day.{Day}
 
 -- The blank has four zeros. It is not printable.
@@ -15,14 +15,11 @@ day_printable x = nat_le 1 x.day && (nat_le x.day 31 && (nat_le 1 x.weekday && (
 abbrev pub day_code : Day → Option ℕ
 day_code x = cond (day_printable x) (Some ((x.day * 8 + x.weekday) * 256 + x.mark)) None
 
--- The day that a number spells in this way, printable or not. It has no note.
+-- The day that a number spells in this way, printable or not. It has no note. A day past 255 is spelled as 255, which
+-- is no day of a month either.
 abbrev pub spelled_day : ℕ → Day
-spelled_day n = record { day = n / 256 / 8; weekday = n / 256 % 8; mark = n % 256; note = 0 }
+spelled_day n = record { day = min (n / 256 / 8) 255; weekday = n / 256 % 8; mark = n % 256; note = 0 }
 
 -- The codes of days are the numbers that spell a printable one.
 abbrev pub day_known : ℕ → Bool
 day_known n = day_printable (spelled_day n)
-
--- The day given back for a code, and the blank for a number that is no code.
-abbrev pub day_given : ℕ → Day
-day_given n = cond (day_known n) (spelled_day n) blank_day

@@ -1,6 +1,6 @@
-// Days: the kind of cell that is one day of a calendar, with a mark and a note.
-ghost use Rattle.std.specs.Prelude.{◌≡◌};
-ghost use Rattle.cells.specs.Days.{blank_day, day_code, day_known, day_given, spelled_day};
+//! Days: the kind of cell that is one day of a calendar, with a mark and a note.
+ghost use Rattle.std.specs.Prelude.{◌≡◌, ◌/◌, ◌%◌};
+ghost use Rattle.cells.specs.Days.{blank_day, day_code, day_known, spelled_day};
 ghost use Rattle.std.proofs.Common.{rules};
 
 use crate::CellKind;
@@ -17,22 +17,24 @@ const MARKS: u32 = 256;
 // How many weekdays a code tells apart, in the 3 bits above the mark: 0, which is none, and those of a week.
 const WEEKDAYS: u32 = 8;
 
-// The note never counts: `==` leaves it out, as the kind's rule of sameness does.
+/// A day of a calendar. The note never counts: `==` leaves it out, as the kind's rule of sameness does.
 #[derive(Clone, Copy)]
 #[derive_where(PartialEq, Eq, Debug)]
 pub struct Day {
-    // The day of the month.
+    /// The day of the month, from 1.
     pub day: u8,
-    // The day of the week, from 1 for Monday to 7 for Sunday, as in ISO 8601.
+    /// The day of the week, from 1 for Monday to 7 for Sunday, as in ISO 8601.
     pub weekday: u8,
+    /// A mark, which is part of the code.
     pub mark: u8,
+    /// A note, which is not.
     #[derive_where(skip(EqHashOrd))]
     pub note: u8,
 }
 
 // The day, the weekday and the mark that a number spells.
 fn parts(code: u32) -> (u32, u32, u32)
-    ensures { result ≡ ((spelled_day code).day, (spelled_day code).weekday, (spelled_day code).mark) }
+    ensures { result ≡ (code / 256 / 8, code / 256 % 8, code % 256) }
 {
     let date = code / MARKS;
     (date / WEEKDAYS, date % WEEKDAYS, code % MARKS)
@@ -60,7 +62,7 @@ impl CellKind for Day {
 
     ghost has = { day_known };
 
-    ghost given = { day_given };
+    ghost spelled = { spelled_day };
 
     ghost reflexive = { Prim.search rules };
 
@@ -75,8 +77,6 @@ impl CellKind for Day {
     ghost known = { Prim.search rules };
 
     ghost back = { Prim.search rules };
-
-    ghost otherwise = { Prim.search rules };
 
     fn code(&self) -> Option<u32> {
         match (self.day, self.weekday) {
@@ -94,14 +94,11 @@ impl CellKind for Day {
         1 <= day && day <= u32::from(LAST_DAY) && 1 <= weekday
     }
 
-    fn cell(code: u32) -> Day {
-        if !Self::has_code(code) {
-            return Self::BLANK;
-        }
-        // All three fit: an error of `try_from` would never come.
+    fn spelled(code: u32) -> Day {
         let (day, weekday, mark) = parts(code);
+        // A day past 8 bits is spelled as 255, which is no day of a month either.
         Day {
-            day: day as u8,
+            day: day.min(u32::from(u8::MAX)) as u8,
             weekday: weekday as u8,
             mark: mark as u8,
             note: 0,

@@ -1,10 +1,11 @@
-// Glyphs: the kind of cell that is a number of 16 bits, and always printable.
+//! Glyphs: the kind of cell that is a number of 16 bits, and always printable.
 ghost use Rattle.std.specs.Prelude.{◌≡◌};
-ghost use Rattle.cells.specs.Glyphs.{blank_glyph, glyph_code, glyph_known, glyph_given};
+ghost use Rattle.cells.specs.Glyphs.{blank_glyph, glyph_code, glyph_known, glyph_of, same_glyph, spelled_glyph};
 ghost use Rattle.std.proofs.Common.{rules};
 
 use crate::CellKind;
 
+/// A glyph, by its number.
 #[derive(Clone, Copy, PartialEq, Eq, Debug)]
 pub struct Glyph(pub u16);
 
@@ -17,13 +18,13 @@ impl CellKind for Glyph {
 
     ghost BLANK = { blank_glyph };
 
-    ghost same = { λ x y. x.0 ≡ y.0 };
+    ghost same = { same_glyph };
 
     ghost coded = { glyph_code };
 
     ghost has = { glyph_known };
 
-    ghost given = { glyph_given };
+    ghost spelled = { spelled_glyph };
 
     ghost reflexive = { Prim.search rules };
 
@@ -39,8 +40,6 @@ impl CellKind for Glyph {
 
     ghost back = { Prim.search rules };
 
-    ghost otherwise = { Prim.search rules };
-
     fn code(&self) -> Option<u32> {
         Some(u32::from(self.0))
     }
@@ -49,7 +48,8 @@ impl CellKind for Glyph {
         code <= u32::from(u16::MAX)
     }
 
-    fn cell(code: u32) -> Glyph {
-        u16::try_from(code).map_or(Self::BLANK, Glyph)
+    fn spelled(code: u32) -> Glyph {
+        // No code of a glyph is past 16 bits; a larger number is spelled as the last glyph.
+        Glyph(code.min(u32::from(u16::MAX)) as u16)
     }
 }
