@@ -1,78 +1,78 @@
 -- What one call does to the book: rows only grow and stay lawful and of their kind, and an answered call's
 -- strip stands under its number. Assumes nothing.
-use Rattle.std.proofs.Common.{◌≡◌, ℕ, ◌≤◌, Bool, List, [], ◌++◌, map, length, Some, None, Option, sym, refl, subst}
-use Rattle.std.proofs.lemmas.List.{append-nil}
+use Rattle.std.proofs.Common.{◌≡◌, ℕ, Bool, List, ◌++◌, map, Option, sym, refl, subst}
+use Rattle.std.specs.List.{AllZip}
 use Rattle.rows.proofs.LawfulFacts.{strip_short}
 use Rattle.rows.specs.declared.Row.{Row}
 use Rattle.rows.specs.Lawful.{Lawful}
-use Rattle.rows.specs.Rounds.{Settled, settle, number_left}
 use Rattle.rows.specs.Strips.{strip}
-use Rattle.rows.proofs.OneNumber.{Stands, settled_stands}
-use Rattle.rows.proofs.SettleFacts.{settles}
-use Rattle.rows.proofs.ShapeFacts.{settle_shapes}
-use Rattle.book.specs.Calls.{Answer, answered, refused, refused_at, Turn, refusing, settling, filing, printed, taken, joined_up, part_of, cut_out}
-use Rattle.book.specs.Laws.{leaf_of_kind, OfKind}
-use Rattle.book.proofs.CallFacts.{refused_apart, refused_at_apart, filing_by, taken_by, joined_by, cut_by, both_have, part_has}
-use Rattle.book.proofs.CodeFacts.{KindLaws, CodesOf, HasAll, codes_given, has_codes, printed_codes}
+use Rattle.rows.proofs.OneNumber.{Stands, stands_append}
+use Rattle.book.specs.Calls.{Call, taking, joining, cutting, numbered, Book, Turn, printed, taken, joined_up, part_of, cut_out, turn, wrote}
+use Rattle.book.specs.Laws.{OfKind, RowsKept, TakesKeep, JoinsKeep, CutsKeep}
+use Rattle.book.proofs.CallFacts.{Keeps, taken_keeps, joined_keeps, cut_keeps, stays, both_have, part_has, joined_of_kind, cut_of_kind, taken_of_kind}
+use Rattle.book.proofs.CodeFacts.{KindLaws, CodesOf, HasAll, codes_given, has_codes, printed_codes, same_from_codes}
+
+-- joins and cuts, of every kind at once
+pub joins_keep : JoinsKeep
+joins_keep book left right places law =
+    let keeps = joined_keeps book law left right places in
+    record {
+      rows = keeps.kept;
+      kind = λ has kinds. joined_of_kind has book kinds left right places;
+      writes = stays book.rows (strip book.rows left ++ strip book.rows right) (joined_up book left right places) keeps;
+    }
+
+pub cuts_keep : CutsKeep
+cuts_keep book n start size places law =
+    let keeps = cut_keeps book law n start size places in
+    record {
+      rows = keeps.kept;
+      kind = λ has kinds. cut_of_kind has book kinds n start size places (strip_short book.rows law n);
+      writes = stays book.rows (part_of book.rows n start size) (cut_out book n start size places) keeps;
+    }
 
 -- what a call that writes these cells comes to
 pub record Told {C : Type 0} (coded : C → Option ℕ) (has : ℕ → Bool) (rows : List Row) (cells : List C) (t : Turn) : Type 0 where
-  pub lawful : Lawful t.rows
-  pub of_kind : OfKind has t.rows
-  pub added : List Row
-  pub grows : t.rows ≡ rows ++ added
-  pub tells : (n : ℕ) → t.answer ≡ answered n → (codes : List ℕ) × Stands t.rows codes n × CodesOf coded cells codes
+  pub kept : RowsKept rows t.book.rows
+  pub of_kind : OfKind has t.book.rows
+  pub tells : (n : ℕ) → t.answer ≡ numbered n → (codes : List ℕ) × Stands t.book.rows codes n × CodesOf coded cells codes
 
-module _ {C : Type 0} (coded : C → Option ℕ) (has : ℕ → Bool) (given : ℕ → C) (same : C → C → Type 0) (laws : KindLaws coded has given same)
-    (rows : List Row) (law : Lawful rows) (kinds : OfKind has rows) where
-  -- a refusal
-  refused_told : (cells : List C) (answer : Answer) → ((n : ℕ) → answer ≡ answered n → ⊥) → Told coded has rows cells (refusing rows answer)
-  refused_told cells answer none =
-      record { lawful = law; of_kind = kinds; added = []; grows = sym (append-nil rows); tells = λ n is. absurd (none n is) }
-
-  plain : (cells : List C) (number : ℕ) → Told coded has rows cells (refusing rows (refused number))
-  plain cells number = refused_told cells (refused number) (refused_apart number)
-
-  -- a strip that is filed
-  module _ (cells : List C) (codes : List ℕ) (short : length codes ≤ 65535) (has_all : HasAll has codes) (codes_are : CodesOf coded cells codes) where
-    settling_told : (o : Option Settled) → settle rows codes ≡ o → Told coded has rows cells (settling rows o)
-    settling_told None is = plain cells 5
-    settling_told (Some s) is =
-        let all = settles rows codes s law short is in
-        record {
-          lawful = all.lawful;
-          of_kind = settle_shapes (leaf_of_kind has) (λ l r. tt) (λ p m. tt) rows codes s kinds has_all is;
-          added = all.added;
-          grows = all.grows;
-          tells = λ n number. (codes, subst (λ k. Stands s.rows codes k) (let e : number_left s.numbers ≡ n = cc in e) (settled_stands rows codes s law short is), codes_are);
-        }
-
-    filing_told : (places : ℕ) → Told coded has rows cells (filing rows codes places)
-    filing_told places = filing_by rows codes places (Told coded has rows cells) (plain cells 4) (settling_told (settle rows codes) refl)
-
+module _ {C : Type 0} (coded : C → Option ℕ) (has : ℕ → Bool) (given : ℕ → C) (same : C → C → Type 0) (laws : KindLaws coded has given same) where
   -- a take
-  pub taken_told : (same_kind : Bool) (cells : List C) (places : ℕ) → Told coded has rows cells (taken same_kind coded rows cells places)
-  taken_told same_kind cells places =
-      taken_by coded rows cells places (Told coded has rows cells) (plain cells 1) (plain cells 2) (λ place. refused_told cells (refused_at 3 place) (refused_at_apart 3 place))
-      (λ printable short.
-      let codes_are = printed_codes coded cells printable in
-      filing_told cells (printed coded cells) short (has_codes coded has given same laws cells (printed coded cells) codes_are) codes_are places)
-      same_kind
+  pub takes_keep : TakesKeep coded has given same
+  takes_keep same_kind book cells places law =
+      let t = taken same_kind coded book cells places in
+      let codes = printed coded cells in
+      let keeps = taken_keeps coded book cells places law same_kind in
+      record {
+        rows = keeps.0.kept;
+        kind = λ kinds. taken_of_kind has book kinds coded given same laws cells places same_kind;
+        writes = λ n answer more.
+            let later = stands_append t.book.rows more codes n (keeps.0.stands n answer) in
+            let codes_are = printed_codes coded cells (keeps.1 n answer) in (
+              later.known,
+              subst (λ xs. AllZip same cells (map given xs)) (sym later.writes)
+                  (same_from_codes coded has given same laws cells (map given codes) codes codes codes_are (codes_given coded has given same laws codes (has_codes coded has given same laws cells codes codes_are)) refl),
+            );
+      }
 
-  -- a strip of codes of the kind that is filed writes the cells given back for them
-  codes_told : (codes : List ℕ) (places : ℕ) → HasAll has codes → length codes ≤ 65535 → Told coded has rows (map given codes) (filing rows codes places)
-  codes_told codes places has_all short = filing_told (map given codes) codes short has_all (codes_given coded has given same laws codes has_all) places
+  module _ (book : Book) (law : Lawful book.rows) (kinds : OfKind has book.rows) where
+    -- a strip of codes of the kind writes the cells given back for them
+    codes_told : (codes : List ℕ) (t : Turn) → HasAll has codes → OfKind has t.book.rows → Keeps book.rows codes t.answer t.book.rows → Told coded has book.rows (map given codes) t
+    codes_told codes t has_all after keeps =
+        record { kept = keeps.kept; of_kind = after; tells = λ n answer. (codes, keeps.stands n answer, codes_given coded has given same laws codes has_all) }
 
-  -- a join
-  pub joined_told : (left right places : ℕ) → Told coded has rows (map given (strip rows left ++ strip rows right)) (joined_up rows left right places)
-  joined_told left right places =
-      let codes = strip rows left ++ strip rows right in
-      let cells = map given codes in
-      joined_by rows left right places (Told coded has rows cells) (plain cells 6) (plain cells 2) (codes_told codes places (both_have has rows kinds left right))
-
-  -- a cut
-  pub cut_told : (n start size places : ℕ) → Told coded has rows (map given (part_of rows n start size)) (cut_out rows n start size places)
-  cut_told n start size places =
-      let codes = part_of rows n start size in
-      let cells = map given codes in
-      cut_by rows n start size places (strip_short rows law n) (Told coded has rows cells) (plain cells 6) (plain cells 7) (codes_told codes places (part_has has rows kinds n start size))
+    pub turn_told : (same_kind : Bool) (call : Call C) (places : ℕ) → Told coded has book.rows (wrote given book call) (turn same_kind coded book call places)
+    turn_told same_kind (taking cells) places =
+        let keeps = taken_keeps coded book cells places law same_kind in
+        record {
+          kept = keeps.0.kept;
+          of_kind = taken_of_kind has book kinds coded given same laws cells places same_kind;
+          tells = λ n answer. (printed coded cells, keeps.0.stands n answer, printed_codes coded cells (keeps.1 n answer));
+        }
+    turn_told same_kind (joining left right) places =
+        codes_told (strip book.rows left ++ strip book.rows right) (joined_up book left right places) (both_have has book kinds left right)
+        (joined_of_kind has book kinds left right places) (joined_keeps book law left right places)
+    turn_told same_kind (cutting n start size) places =
+        codes_told (part_of book.rows n start size) (cut_out book n start size places) (part_has has book kinds n start size)
+        (cut_of_kind has book kinds n start size places (strip_short book.rows law n)) (cut_keeps book law n start size places)
