@@ -57,9 +57,12 @@ settling rows (Some s) = record { answer = numbered (number_left s.numbers); row
 unfoldable pub filing : List Row → List ℕ → ℕ → Filing
 filing rows codes places = cond (nat_lt places (length codes)) (unfiled rows (refused 4)) (settling rows (settle rows codes))
 
--- the same as the turn of a book
+-- the same as a turn of the book
+abbrev pub in_book : Book → Filing → Turn
+in_book book f = record { answer = f.answer; book = with_rows book f.rows }
+
 abbrev pub filed_in : Book → List ℕ → ℕ → Turn
-filed_in book codes places = let f = filing book.rows codes places in record { answer = f.answer; book = with_rows book f.rows }
+filed_in book codes places = in_book book (filing book.rows codes places)
 
 -- the codes of printable cells
 abbrev pub printed : {C : Type 0} → (C → Option ℕ) → List C → List ℕ

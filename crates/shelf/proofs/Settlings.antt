@@ -6,8 +6,8 @@ use Rattle.std.proofs.lemmas.List.{take-append-le, take_all}
 use Rattle.std.proofs.lemmas.Bool.{cond-true, cond-false, lt-ltb, le-ltb, le-leb}
 use Rattle.std.proofs.lemmas.List.Elements.{length_all_zip}
 use Rattle.std.specs.List.{AllZip}
-use Rattle.book.specs.Calls.{answered, refused, Turn, refusing, settling, filing}
-use Rattle.book.proofs.CallFacts.{Stays}
+use Rattle.book.specs.Calls.{numbered, refused, Book, with_rows, Turn, refusing, Filing, unfiled, settling, filing, in_book}
+use Rattle.book.specs.Laws.{OfKind, Stays, WritesCells, PartsKeep}
 use Rattle.rows.specs.declared.Row.{Row}
 use Rattle.rows.specs.Rounds.{Settled, then, rounds_from, leaf_block, leaves, enough_rounds, settle}
 use Rattle.rows.specs.Strips.{strip}
@@ -19,7 +19,7 @@ use Rattle.recompression.specs.Settlements.{all_rounds, settlement, settlement_o
 use Rattle.shelf.specs.declared.refusal.Refusal.{Refusal}
 use Rattle.shelf.specs.declared.refusal.Refusal.TheVariants.{WorkAreaTooShort}
 use Rattle.shelf.specs.Leaves.{LeavesFiled, SettlesAs, SettlesOrUndoes}
-use Rattle.shelf.specs.Refusals.{refusal_for, refusal_told, ComesTo, StaysWritten}
+use Rattle.shelf.specs.Refusals.{refusal_for, refusal_told, ComesTo, FilesAs, StaysWritten, Writes}
 use Rattle.shelf.specs.WritingOut.{WrittenBack, WritesBack}
 
 -- an answer of the rounds as the shelf gives it
@@ -63,31 +63,31 @@ leaves_full old after codes numbers e full = (full.0, ap (λ o. then o (rounds_f
 
 -- what the book tells
 module _ (old : List Row) (codes : List ℕ) (places : ℕ) where
-  pub told_short : places < length codes → (rows : List Row) → rows ≡ old → ComesTo (Err WorkAreaTooShort) rows (filing old codes places)
+  pub told_short : places < length codes → (rows : List Row) → rows ≡ old → FilesAs (Err WorkAreaTooShort) rows (filing old codes places)
   unfolding filing
   told_short few rows same =
-      let is = cond-true (ltb places (length codes)) (refusing old (refused 4)) (settling old (settle old codes)) (lt-ltb places (length codes) few) in
+      let is = cond-true (ltb places (length codes)) (unfiled old (refused 4)) (settling old (settle old codes)) (lt-ltb places (length codes) few) in
       (ap (λ t. t.answer) (sym is), same ∙ ap (λ t. t.rows) (sym is))
 
   pub filing_enough : length codes ≤ places → filing old codes places ≡ settling old (settle old codes)
   unfolding filing
-  filing_enough room = cond-false (ltb places (length codes)) (refusing old (refused 4)) (settling old (settle old codes)) (le-ltb places (length codes) room)
+  filing_enough room = cond-false (ltb places (length codes)) (unfiled old (refused 4)) (settling old (settle old codes)) (le-ltb places (length codes) room)
 
-  pub told_settled : length codes ≤ places → (r : Result ℕ Refusal) (after : List Row) → SettlesOrUndoes old codes r after → ComesTo r after (filing old codes places)
+  pub told_settled : length codes ≤ places → (r : Result ℕ Refusal) (after : List Row) → SettlesOrUndoes old codes r after → FilesAs r after (filing old codes places)
   told_settled room (Ok n) after is =
       let same = filing_enough room ∙ ap (settling old) is.1 in
-      (ap answered is.2 ∙ ap (λ t. t.answer) (sym same), is.3 ∙ ap (λ t. t.rows) (sym same))
+      (ap numbered is.2 ∙ ap (λ t. t.answer) (sym same), is.3 ∙ ap (λ t. t.rows) (sym same))
   told_settled room (Err e) after is =
       let same = filing_enough room ∙ ap (settling old) is.1 in
       (ap refusal_told is.0 ∙ ap (λ t. t.answer) (sym same), is.2 ∙ ap (λ t. t.rows) (sym same))
 
--- the same turn, written in another way
-pub comes_by : (r : Result ℕ Refusal) (rows : List Row) (t u : Turn) → u ≡ t → ComesTo r rows t → ComesTo r rows u
-comes_by r rows t u same comes = subst (λ v. ComesTo r rows v) (sym same) comes
+-- a strip that is filed is a turn of the book
+pub filed_comes : (book : Book) (r : Result ℕ Refusal) (after : List Row) (f : Filing) (t : Turn) → t ≡ in_book book f → FilesAs r after f → ComesTo r (with_rows book after) t
+filed_comes book r after f t same files = (files.0 ∙ ap (λ u. u.answer) (sym same), ap (with_rows book) files.1 ∙ ap (λ u. u.book) (sym same))
 
--- a refusal leaves the rows as they stood
-pub comes_refused : (e : Refusal) (old rows : List Row) (t : Turn) → t ≡ refusing old (refusal_told e) → rows ≡ old → ComesTo (Err e) rows t
-comes_refused e old rows t is same = (ap (λ u. u.answer) (sym is), same ∙ ap (λ u. u.rows) (sym is))
+-- a refusal leaves the book as it stood
+pub comes_refused : (e : Refusal) (book : Book) (t : Turn) → t ≡ refusing book (refusal_told e) → ComesTo (Err e) book t
+comes_refused e book t is = (ap (λ u. u.answer) (sym is), ap (λ u. u.book) (sym is))
 
 -- cells that a known number's strip has are written out again
 writes_back : {C : Type 0} (same : C → C → Type 0) (given : ℕ → C) (rows : List Row) (cells : List C) (n : ℕ) (old : List C) → n ≤ length rows → AllZip same cells (map given (strip rows n)) → length old ≡ length cells
@@ -100,15 +100,22 @@ writes_back same given rows cells n old known agree room =
       same_cells = subst (λ xs. AllZip same cells (map given xs)) (sym (take_all (length old) (strip rows n) (omega (arith, fits)))) agree;
     }
 
--- what the book says of an answered take holds of the call's result
-pub back_from : {C : Type 0} (same : C → C → Type 0) (given : ℕ → C) (cells : List C) (r : Result ℕ Refusal) (rows : List Row) (t : Turn) → ComesTo r rows t
-    → ((n : ℕ) → t.answer ≡ answered n → (more : List Row) → (n ≤ length (t.rows ++ more)) × AllZip same cells (map given (strip (t.rows ++ more) n))) → WrittenBack same given rows cells r
-back_from same given cells (Ok n) rows t comes back = λ more old room.
-    subst (λ rs. WritesBack same given (rs ++ more) cells n old) (sym comes.1)
-    (let stands = back n (sym comes.0) more in writes_back same given (t.rows ++ more) cells n old stands.0 stands.1 room)
-back_from same given cells (Err e) rows t comes back = tt
+-- what the book says of a number that is answered holds of the call's result: of a take
+pub back_from : {C : Type 0} (same : C → C → Type 0) (given : ℕ → C) (cells : List C) (r : Result ℕ Refusal) (book : Book) (t : Turn) → ComesTo r book t
+    → WritesCells given same cells t → WrittenBack same given book.rows cells r
+back_from same given cells (Ok n) book t comes back = λ more old room.
+    subst (λ b. WritesBack same given (b.rows ++ more) cells n old) (sym comes.1)
+    (let stands = back n (sym comes.0) more in writes_back same given (t.book.rows ++ more) cells n old stands.0 stands.1 room)
+back_from same given cells (Err e) book t comes back = tt
 
--- the same of codes, for joining and cutting
-pub stays_from : (codes : List ℕ) (r : Result ℕ Refusal) (rows : List Row) (t : Turn) → ComesTo r rows t → Stays codes t → StaysWritten codes rows r
-stays_from codes (Ok n) rows t comes stays = λ more. subst (λ rs. strip (rs ++ more) n ≡ codes) (sym comes.1) (stays n (sym comes.0) more)
-stays_from codes (Err e) rows t comes stays = tt
+-- and of a join or a cut
+stays_from : (codes : List ℕ) (r : Result ℕ Refusal) (book : Book) (t : Turn) → ComesTo r book t → Stays codes t → StaysWritten codes book.rows r
+stays_from codes (Ok n) book t comes stays = λ more. subst (λ b. strip (b.rows ++ more) n ≡ codes) (sym comes.1) (stays n (sym comes.0) more)
+stays_from codes (Err e) book t comes stays = tt
+
+pub writes_from : (codes : List ℕ) (before : Book) (t : Turn) → PartsKeep before codes t → (r : Result ℕ Refusal) (after : Book) → ComesTo r after t → Writes codes before t r after
+writes_from codes before t keeps r after comes = record {
+  outcome = comes;
+  kept = λ has of_kind. subst (λ b. OfKind has b.rows) (sym comes.1) (keeps.kind has of_kind);
+  back = stays_from codes r after t comes keeps.writes;
+}

@@ -1,7 +1,7 @@
 -- Refusals by number, and the answers that results stand for. Assumes nothing.
-use Rattle.std.specs.Prelude.{◌≡◌, ℕ, ◌<◌, ◌≤◌, Bool, List, ◌++◌, length, Some, Ok, Err, Option, codes as ascii, decimal, Result}
-use Rattle.book.specs.Calls.{Answer, answered, refused, refused_at, Turn}
-use Rattle.book.specs.Laws.{OfKind}
+use Rattle.std.specs.Prelude.{◌≡◌, ℕ, ◌<◌, ◌≤◌, List, ◌++◌, length, Some, Ok, Err, Option, codes as ascii, decimal, Result}
+use Rattle.book.specs.Calls.{Answer, numbered, refused, refused_at, Book, Turn, Filing}
+use Rattle.book.specs.Laws.{KindKept}
 use Rattle.cells.specs.Printing.{first_unprintable}
 use Rattle.recompression.specs.declared.table.settle.Unsettled.{Unsettled}
 use Rattle.recompression.specs.declared.table.settle.Unsettled.TheVariants as unsettled
@@ -54,25 +54,25 @@ refusal_told FragmentLeavesStrip = refused 7
 
 -- the answer that a call's result stands for
 abbrev pub told : Result ℕ Refusal → Answer
-told (Ok n) = answered n
+told (Ok n) = numbered n
 told (Err e) = refusal_told e
 
--- a call's result and the rows that it leaves are those of the book's turn
-abbrev pub ComesTo : Result ℕ Refusal → List Row → Turn → Type 0
-ComesTo r rows t = (told r ≡ t.answer) × (rows ≡ t.rows)
+-- a call's result and the book that it leaves are those of a turn of the book
+abbrev pub ComesTo : Result ℕ Refusal → Book → Turn → Type 0
+ComesTo r book t = (told r ≡ t.answer) × (book ≡ t.book)
+
+-- the same of a strip that is filed, and the rows
+abbrev pub FilesAs : Result ℕ Refusal → List Row → Filing → Type 0
+FilesAs r rows f = (told r ≡ f.answer) × (rows ≡ f.rows)
 
 -- the number answered writes these codes, now and when rows have been added
 abbrev pub StaysWritten : List ℕ → List Row → Result ℕ Refusal → Type 0
 StaysWritten codes rows (Ok n) = (more : List Row) → strip (rows ++ more) n ≡ codes
 StaysWritten codes rows (Err e) = Unit {0}
 
--- rows of a kind, whichever it is, are still of that kind
-abbrev pub KindKept : List Row → List Row → Type 0
-KindKept before after = (has : ℕ → Bool) → OfKind has before → OfKind has after
-
--- a call on rows that writes these codes: what it answers and leaves is the book's turn, the rows stay of their
--- kind, and the number answered writes the codes
-pub record Writes (codes : List ℕ) (before : List Row) (t : Turn) (r : Result ℕ Refusal) (after : List Row) : Type 0 where
+-- a call that writes these codes: what it answers and leaves is the book's turn, the rows stay of their kind, and the
+-- number answered writes the codes
+pub record Writes (codes : List ℕ) (before : Book) (t : Turn) (r : Result ℕ Refusal) (after : Book) : Type 0 where
   pub outcome : ComesTo r after t
-  pub kept : KindKept before after
-  pub back : StaysWritten codes after r
+  pub kept : KindKept before.rows after.rows
+  pub back : StaysWritten codes after.rows r

@@ -1,20 +1,22 @@
 // Sending: a list of takes, joins and cuts, each working on what the earlier ones left.
 ghost use Rattle.std.specs.Prelude.{◌≡◌, min, map, length, take, replicate, ◌==◌};
 ghost use Rattle.book.specs.Calls.{turn};
-ghost use Rattle.book.specs.Runs.{rows_after, answers_of};
-ghost use Rattle.shelf.specs.Contents.{kind_of, rows_on};
+ghost use Rattle.book.specs.Runs.{book_after, answers_of};
+ghost use Rattle.cells.specs.Giving.{given_by};
+ghost use Rattle.shelf.specs.Contents.{book_of, kind_of};
 ghost use Rattle.shelf.specs.Refusals.{told, ComesTo};
 ghost use Rattle.shelf.specs.Sending.{Begun, SentTo, call_of, calls_sent};
 
 use crate::Shelf;
 use crate::request::{Answer, Request, Sent};
 use crate::work::WorkArea;
+use book::law_of_the_book;
 use cells::CellKind;
 
 impl Shelf {
     // One request, as if it had been called with its places, at most those there are.
     fn perform<K: CellKind>(&mut self, sent: &Sent<K>, work: &mut [u16]) -> Answer
-        ensures outcome { ComesTo result (rows_on self.new) (turn (kind_of self.old == K.NUMBER) K.coded (rows_on self.old) (call_of sent.now.request) (min sent.now.places (length work.old))) }
+        ensures outcome { ComesTo result (book_of self.new) (turn (kind_of self.old == K.NUMBER) K.coded (book_of self.old) (call_of sent.now.request) (min sent.now.places (length work.old))) }
         ensures kind { kind_of self.new ≡ kind_of self.old }
     {
         let places = sent.places.min(work.len());
@@ -35,10 +37,11 @@ impl Shelf {
         work: &mut [u16],
     )
         requires { length answers.old ≡ length requests.now }
-        ensures rows { rows_on self.new ≡ rows_after (kind_of self.old == K.NUMBER) K.coded (rows_on self.old) (calls_sent (length work.old) requests.now) }
-        ensures answers { map told answers.new ≡ answers_of (kind_of self.old == K.NUMBER) K.coded (rows_on self.old) (calls_sent (length work.old) requests.now) }
+        ensures book { book_of self.new ≡ book_after (kind_of self.old == K.NUMBER) K.coded (book_of self.old) (calls_sent (length work.old) requests.now) }
+        ensures answers { map told answers.new ≡ answers_of (kind_of self.old == K.NUMBER) K.coded (book_of self.old) (calls_sent (length work.old) requests.now) }
         ensures kind { kind_of self.new ≡ kind_of self.old }
     {
+        law_of_the_book::<K>();
         // By place, since the checker knows nothing of what is written through a zipped `iter_mut`.
         for (i, request) in requests.iter().enumerate() {
             answers[i] = self.perform(request, work);
@@ -56,10 +59,11 @@ impl Shelf {
         work: &mut [u16],
     ) -> usize
         ensures performed { result ≡ min (length requests.now) (length answers.old) }
-        ensures sent { SentTo K.coded K.has K.given K.same (kind_of self.old == K.NUMBER) (rows_on self.old) (calls_sent (length work.old) (take result requests.now)) result answers.old answers.new (rows_on self.new) }
+        ensures sent { SentTo K.coded K.has (given_by K.has K.spelled K.BLANK) K.same (kind_of self.old == K.NUMBER) (book_of self.old) (calls_sent (length work.old) (take result requests.now)) result answers.old answers.new (book_of self.new) }
         ensures kind { kind_of self.new ≡ kind_of self.old }
         ensures cleared { work.new ≡ replicate (length work.old) 0 }
     {
+        law_of_the_book::<K>();
         let work = WorkArea(work);
         let count = requests.len().min(answers.len());
         self.send_all(&requests[..count], &mut answers[..count], work.0);
@@ -72,7 +76,7 @@ impl Shelf {
         answers: &mut [Answer],
         work: &mut [u16],
     ) -> Shelf
-        ensures begun { let count = min (length requests.now) (length answers.old) in Begun K.coded K.has K.given K.same (calls_sent (length work.old) (take count requests.now)) count answers.old answers.new (rows_on result) }
+        ensures begun { let count = min (length requests.now) (length answers.old) in Begun K.coded K.has (given_by K.has K.spelled K.BLANK) K.same (calls_sent (length work.old) (take count requests.now)) count answers.old answers.new (book_of result) }
         ensures kind { kind_of result ≡ K.NUMBER }
         ensures cleared { work.new ≡ replicate (length work.old) 0 }
     {

@@ -2,6 +2,7 @@
 ghost use Rattle.std.specs.Prelude.{◌≡◌, ◌+◌, ◌≤◌, map, length, ◌==◌};
 ghost use Rattle.book.specs.Calls.{part_of};
 ghost use Rattle.rows.specs.Strips.{strip};
+ghost use Rattle.cells.specs.Giving.{given_by};
 ghost use Rattle.shelf.specs.Contents.{kind_of, rows_on};
 ghost use Rattle.shelf.specs.WritingOut.{refusal_of, writing_check, cells_after};
 
@@ -15,7 +16,7 @@ impl Shelf {
     fn fill<K: CellKind>(&self, number: u16, start: usize, cells: &mut [K])
         requires known { number ≤ length (rows_on self.now) }
         requires inside { start + length cells.old ≤ length (strip (rows_on self.now) number) }
-        ensures { cells.new ≡ map K.given (part_of (rows_on self.now) number start (length cells.old)) }
+        ensures { cells.new ≡ map (given_by K.has K.spelled K.BLANK) (part_of (rows_on self.now) number start (length cells.old)) }
     {
         for (i, cell) in cells.iter_mut().enumerate() {
             *cell = K::cell(self.table.code_at(number, start + i).unwrap());
@@ -31,7 +32,7 @@ impl Shelf {
         cells: &mut [K],
     ) -> Result<(), Refusal>
         ensures outcome { refusal_of result ≡ writing_check (kind_of self.now == K.NUMBER) (rows_on self.now) number start (length cells.old) }
-        ensures written { cells.new ≡ cells_after K.given (writing_check (kind_of self.now == K.NUMBER) (rows_on self.now) number start (length cells.old)) (rows_on self.now) number start cells.old }
+        ensures written { cells.new ≡ cells_after (given_by K.has K.spelled K.BLANK) (writing_check (kind_of self.now == K.NUMBER) (rows_on self.now) number start (length cells.old)) (rows_on self.now) number start cells.old }
     {
         if !self.is_of_kind::<K>() {
             return Err(Refusal::OtherKind);

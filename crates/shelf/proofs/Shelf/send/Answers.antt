@@ -2,19 +2,19 @@ use Rattle.std.proofs.Common.{◌≡◌, eqb, ◌++◌, map, length, take, drop,
 use Rattle.std.proofs.lemmas.List.{take_at, drop_at}
 use Rattle.book.specs.Laws.{OfKind, OneNumber}
 use Rattle.book.specs.Runs.{answers_of, strips_of}
-use Rattle.book.proofs.CodeFacts.{KindLaws}
-use Rattle.book.proofs.RunFacts.{ran, one_number_of_run}
-use Rattle.shelf.specs.Contents.{rows_on}
+use Rattle.cells.specs.Giving.{given_by}
+use Rattle.shelf.specs.Contents.{book_of}
 use Rattle.shelf.specs.Refusals.{told}
 use Rattle.shelf.specs.Sending.{calls_sent}
-use Rattle.shelf.proofs.Histories.{goes_on}
+use Rattle.shelf.proofs.Histories.{goes_on_with}
 use Rattle.shelf.proofs.Shelf.send.Goals as goal
 
 pub returns-clause-sent : goal.returns-clause-sent
 returns-clause-sent g c =
     let K = g.K.CellKind in
-    let laws = g.met.K.CellKind in
+    let given = given_by K.has K.spelled K.BLANK in
     let shelf = c.args.self.now in
+    let book = book_of shelf in
     let same_kind = eqb shelf.kind K.NUMBER in
     let area = length c.args.work.now in
     let requests = c.args.requests.now in
@@ -22,15 +22,15 @@ returns-clause-sent g c =
     let rest = drop count c.args.answers.now in
     let long : length c.send_all.new.answers ≡ count = search rules in
     let sents = calls_sent area (take count requests) in
-    let told_are : map told (take count (c.send_all.new.answers ++ rest)) ≡ answers_of same_kind K.coded (rows_on shelf) sents =
+    let told_are : map told (take count (c.send_all.new.answers ++ rest)) ≡ answers_of same_kind K.coded book sents =
     ap (map told) (take_at c.send_all.new.answers rest count long) ∙ c.send_all.ensures.answers in
-    let kind_laws : KindLaws K.coded K.has K.given K.same = record { alike = laws.alike; known = laws.known; back = laws.back } in
+    let law = c.law_of_the_book.ensures in
     record {
-      rows = c.send_all.ensures.rows;
+      leaves = c.send_all.ensures.book;
       answers = told_are;
       others = drop_at c.send_all.new.answers rest count long;
-      kept = λ of_kind. subst (OfKind K.has) (sym c.send_all.ensures.rows) (ran same_kind K.coded K.has K.given K.same kind_laws (rows_on shelf) shelf.lawful of_kind sents).of_kind;
-      law = λ of_kind. subst (λ xs. OneNumber K.same xs (strips_of same_kind K.coded K.given (rows_on shelf) sents)) (sym told_are)
-          (one_number_of_run same_kind K.coded K.has K.given K.same kind_laws (rows_on shelf) shelf.lawful of_kind sents);
-      history = λ start past lawful of_kind same is. goes_on K.coded K.has K.given K.same kind_laws same_kind (rows_on shelf) start past sents _ _ lawful of_kind same is c.send_all.ensures.rows told_are;
+      kept = λ of_kind. subst (λ b. OfKind K.has b.rows) (sym c.send_all.ensures.book) (law.law same_kind book sents shelf.lawful of_kind).kind;
+      law = λ of_kind. subst (λ xs. OneNumber K.same xs (strips_of same_kind K.coded given book sents)) (sym told_are) (law.law same_kind book sents shelf.lawful of_kind).law;
+      history = λ start past lawful of_kind same is.
+          goes_on_with K.coded K.has given K.same law.law law.goes_on same_kind book start past sents _ _ lawful of_kind same is c.send_all.ensures.book told_are;
     }
