@@ -1,75 +1,51 @@
 -- One strip has one number, one number has one strip, in the lines of a job. Assumes nothing.
-use Rattle.std.proofs.Common.{◌≡◌, ℕ, ◌<◌, ◌≤◌, Result, IfOk, String, Global, string_bytes, Bool, true, false, cond, leb, ◌↔◌, List, [], ◌∷◌, ◌++◌, length, Some, None, sym, refl, ap, ◌∙◌, subst, arith}
+use Rattle.std.proofs.Common.{◌≡◌, ℕ, ◌<◌, ◌≤◌, Result, IfOk, String, Global, string_bytes, Bool, true, false, cond, leb, List, [], ◌∷◌, ◌++◌, length, sym, refl, ap, ◌∙◌, subst}
 use Rattle.std.proofs.lemmas.Result.{IfOk-weaker}
 use Rattle.std.specs.List.{flat_map}
 use Rattle.std.specs.declared.alloc.AllocError.{AllocError}
-use Rattle.cells.specs.declared.glyph.Glyph.{Glyph}
-use Rattle.cells.specs.Glyphs.{glyph_of, glyph_known, glyph_code, glyph_given}
-use Rattle.rows.proofs.LawfulFacts.{lawful_none}
+use Rattle.cells.specs.Glyphs.{same_glyph, glyph_known, glyph_code, glyph_given}
 use Rattle.book.specs.Calls as book
-use Rattle.book.specs.Laws.{OneNumber}
+use Rattle.book.specs.Laws.{OneNumber, NewIsLawful, RunsKeep}
 use Rattle.book.specs.Runs.{answers_of, strips_of}
-use Rattle.book.proofs.CodeFacts.{KindLaws}
-use Rattle.book.proofs.RunFacts.{one_number_of_run}
 use Rattle.job.specs.declared.command.Command.{Command}
 use Rattle.job.specs.declared.command.Command.TheVariants.{Glyph as put, Take, Join, Cut, Places}
 use Rattle.job.specs.Commands.{Entry, reads, unreadable, entries}
-use Rattle.job.specs.Runs.{most_bytes, Standing, nothing_yet, calls_by, tray_after, fits, turn, stopped, too_long, told_by, after, told_from, calls_from, told_of, calls_of, answers_in, same_glyph}
+use Rattle.job.specs.Runs.{most_bytes, Standing, nothing_yet, calls_by, tray_after, fits, turn, stopped, too_long, told_by, after, told_from, calls_from, told_of, calls_of, answers_in}
 use Rattle.job.specs.Lines.{line_bytes, printed_by, LawfulPrintout}
 use Rattle.job.proofs.Turns.{printed_too_long, printed_run}
 
 -- the answers in what entries tell are those of the calls that they make
-pub answers_told : (s : Standing) (es : List Entry) → answers_in (told_from s es) ≡ answers_of true glyph_code s.rows (calls_from s.tray es)
+pub answers_told : (s : Standing) (es : List Entry) → answers_in (told_from s es) ≡ answers_of true glyph_code s.book (calls_from s.tray es)
 answers_told s [] = refl
 answers_told s (unreadable place ∷ rest) = refl
 answers_told s (reads place command ∷ rest) = by (λ t. answers_told t rest) (fits s.tray command) command
   where
-    by : ((t : Standing) → answers_in (told_from t rest) ≡ answers_of true glyph_code t.rows (calls_from t.tray rest)) → (b : Bool) (c : Command)
-        → answers_in (cond b (told_by s c ++ told_from (after s c) rest) (stopped place ∷ [])) ≡ answers_of true glyph_code s.rows (cond b (calls_by s.tray c ++ calls_from (tray_after s.tray c) rest) [])
+    by : ((t : Standing) → answers_in (told_from t rest) ≡ answers_of true glyph_code t.book (calls_from t.tray rest)) → (b : Bool) (c : Command)
+        → answers_in (cond b (told_by s c ++ told_from (after s c) rest) (stopped place ∷ [])) ≡ answers_of true glyph_code s.book (cond b (calls_by s.tray c ++ calls_from (tray_after s.tray c) rest) [])
     by later false c = refl
     by later true (put number) = later (after s (put number))
-    by later true Take = ap (λ l. (turn s.rows (book.taking s.tray)).answer ∷ l) (later (after s Take))
-    by later true (Join left right) = ap (λ l. (turn s.rows (book.joining left right)).answer ∷ l) (later (after s (Join left right)))
-    by later true (Cut number part) = ap (λ l. (turn s.rows (book.cutting number part.start part.length)).answer ∷ l) (later (after s (Cut number part)))
+    by later true Take = ap (λ l. (turn s.book (book.taking s.tray)).answer ∷ l) (later (after s Take))
+    by later true (Join left right) = ap (λ l. (turn s.book (book.joining left right)).answer ∷ l) (later (after s (Join left right)))
+    by later true (Cut number part) = ap (λ l. (turn s.book (book.cutting number part.start part.length)).answer ∷ l) (later (after s (Cut number part)))
     by later true (Places number pattern field) = later (after s (Places number pattern field))
 
-answers_job : (job : List ℕ) → answers_in (told_of job) ≡ answers_of true glyph_code [] (calls_of job)
+answers_job : (job : List ℕ) → answers_in (told_of job) ≡ answers_of true glyph_code book.no_rows (calls_of job)
 unfolding told_of calls_of
 answers_job job = by (leb (length job) most_bytes)
   where
-    by : (b : Bool) → answers_in (cond b (told_from nothing_yet (entries job)) (too_long ∷ [])) ≡ answers_of true glyph_code [] (cond b (calls_from [] (entries job)) [])
+    by : (b : Bool) → answers_in (cond b (told_from nothing_yet (entries job)) (too_long ∷ [])) ≡ answers_of true glyph_code book.no_rows (cond b (calls_from [] (entries job)) [])
     by true = answers_told nothing_yet (entries job)
     by false = refl
 
--- the laws of glyphs
-glyph_laws : KindLaws glyph_code glyph_known glyph_given same_glyph
-glyph_laws = record { alike = alike; known = known; back = back }
-  where
-    coded : (b : Bool) (x n : ℕ) → cond b (Some x) None ≡ Some n → (b ≡ true) × (x ≡ n)
-    coded true x n is = (refl, cc)
-    coded false x n is = let z : ◌≡◌ {A = ℕ} 0 1 = cc in absurd (omega arith)
-
-    alike : (x y : Glyph) (m n : ℕ) → glyph_code x ≡ Some m → glyph_code y ≡ Some n → same_glyph x y ↔ (m ≡ n)
-    alike x y m n at_x at_y =
-        let left = coded (glyph_known x.0) x.0 m at_x in
-        let right = coded (glyph_known y.0) y.0 n at_y in
-        (λ same. sym left.1 ∙ same ∙ right.1, λ equal. left.1 ∙ equal ∙ sym right.1)
-
-    known : (x : Glyph) (n : ℕ) → glyph_code x ≡ Some n → glyph_known n ≡ true
-    known x n is = let parts = coded (glyph_known x.0) x.0 n is in subst (λ k. glyph_known k ≡ true) parts.1 parts.0
-
-    back : (n : ℕ) → glyph_known n ≡ true → glyph_code (glyph_given n) ≡ Some n
-    back n is = ap (λ b. glyph_code (cond b (glyph_of n) (glyph_of 32))) is ∙ ap (λ b. cond b (Some n) None) is
-
 -- what a job prints is lawful
-pub printout_lawful : (job text : List ℕ) → text ≡ printed_by job → LawfulPrintout job text
+pub printout_lawful : NewIsLawful → RunsKeep glyph_code glyph_known glyph_given same_glyph → (job text : List ℕ) → text ≡ printed_by job → LawfulPrintout job text
 unfolding printed_by
-printout_lawful job text is =
+printout_lawful new keeps job text is =
     record {
       prints = is;
       answers = answers_job job;
-      law = subst (λ answers. OneNumber same_glyph answers (strips_of true glyph_code glyph_given [] (calls_of job))) (sym (answers_job job))
-          (one_number_of_run true glyph_code glyph_known glyph_given same_glyph glyph_laws [] lawful_none tt (calls_of job));
+      law = subst (λ answers. OneNumber same_glyph answers (strips_of true glyph_code glyph_given book.no_rows (calls_of job))) (sym (answers_job job))
+          (keeps true book.no_rows (calls_of job) new.0 (new.1 glyph_known)).law;
     }
 
 -- a job that is too long prints that alone, and any other what its commands tell
@@ -80,7 +56,7 @@ pub prints_run : (job : List ℕ) (r : Result (String Global) AllocError) → le
 prints_run job r short told = IfOk-weaker r _ _ (λ text is. is ∙ printed_run job short) told
 
 -- and what is printed is lawful
-pub prints_lawfully : (job : List ℕ) (r : Result (String Global) AllocError) → IfOk r (λ text. string_bytes text ≡ printed_by job) → IfOk r (λ text. LawfulPrintout job (string_bytes text))
-prints_lawfully job r printed = IfOk-weaker r _ _ (λ text is. printout_lawful job (string_bytes text) is) printed
+pub prints_lawfully : NewIsLawful → RunsKeep glyph_code glyph_known glyph_given same_glyph → (job : List ℕ) (r : Result (String Global) AllocError) → IfOk r (λ text. string_bytes text ≡ printed_by job) → IfOk r (λ text. LawfulPrintout job (string_bytes text))
+prints_lawfully new keeps job r printed = IfOk-weaker r _ _ (λ text is. printout_lawful new keeps job (string_bytes text) is) printed
 
 pub ruleset printouts = (prints_too_long, prints_run, prints_lawfully)

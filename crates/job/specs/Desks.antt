@@ -1,7 +1,7 @@
 -- How things stand on a desk, and what a turn there does. Assumes nothing.
 use Rattle.std.specs.Prelude.{◌≡◌, cond, List, [], ◌∷◌, Some, None, vec_items, Option}
 use Rattle.cells.specs.declared.glyph.Glyph.{Glyph}
-use Rattle.shelf.specs.Contents.{rows_on}
+use Rattle.shelf.specs.Contents.{book_of}
 use Rattle.job.specs.declared.command.Command.{Command}
 use Rattle.job.specs.declared.desk.Desk.{Desk}
 use Rattle.job.specs.declared.line.Line.{Line}
@@ -9,7 +9,7 @@ use Rattle.job.specs.Runs.{Standing, Told, fits, told_by, after}
 use Rattle.job.specs.Lines.{told_in}
 
 abbrev pub standing_of : Desk → Standing
-standing_of d = record { rows = rows_on d.shelf; tray = vec_items d.tray }
+standing_of d = record { book = book_of d.shelf; tray = vec_items d.tray }
 
 -- the command that was read, unless it cannot be done
 abbrev pub doable : List Glyph → Option Command → Option Command

@@ -2,15 +2,15 @@
 use Rattle.std.specs.Prelude.{◌≡◌, ℕ, true, List, [], ◌∷◌, ◌++◌, codes as ascii, decimal}
 use Rattle.std.specs.List.{flat_map}
 use Rattle.ask.specs.Answers.{refused_shown, found_text}
-use Rattle.cells.specs.Glyphs.{glyph_code, glyph_given}
+use Rattle.cells.specs.Glyphs.{same_glyph, glyph_code, glyph_given}
 use Rattle.book.specs.Laws.{OneNumber}
 use Rattle.book.specs.Runs.{answers_of, strips_of}
-use Rattle.book.specs.Calls.{Answer, answered, refused, refused_at}
+use Rattle.book.specs.Calls.{Answer, numbered, no_rows, refused, refused_at}
 use Rattle.questions.specs.Outcomes.{outcome}
 use Rattle.shelf.specs.Refusals.{told}
 use Rattle.job.specs.declared.line.Line.{Line}
 use Rattle.job.specs.declared.line.Line.TheVariants as line
-use Rattle.job.specs.Runs.{Told, of_take, of_join, of_cut, of_places, stopped, too_long, told_of, calls_of, answers_in, same_glyph}
+use Rattle.job.specs.Runs.{Told, of_take, of_join, of_cut, of_places, stopped, too_long, told_of, calls_of, answers_in}
 
 -- what a line of the program tells
 abbrev pub told_in : Line → Told
@@ -23,7 +23,7 @@ told_in line.TooLong = too_long
 
 -- how an answer is shown: a number, or `refused` and the refusal's number
 abbrev pub answer_shown : Answer → List ℕ
-answer_shown (answered n) = decimal n
+answer_shown (numbered n) = decimal n
 answer_shown (refused number) = refused_shown number
 answer_shown (refused_at number place) = refused_shown number
 
@@ -54,5 +54,5 @@ printed_by job = flat_map line_bytes (told_of job)
 -- strips that they wrote have the same length and the same glyphs
 pub record LawfulPrintout (job text : List ℕ) : Type 0 where
   pub prints : text ≡ flat_map line_bytes (told_of job)
-  pub answers : answers_in (told_of job) ≡ answers_of true glyph_code [] (calls_of job)
-  pub law : OneNumber same_glyph (answers_in (told_of job)) (strips_of true glyph_code glyph_given [] (calls_of job))
+  pub answers : answers_in (told_of job) ≡ answers_of true glyph_code no_rows (calls_of job)
+  pub law : OneNumber same_glyph (answers_in (told_of job)) (strips_of true glyph_code glyph_given no_rows (calls_of job))

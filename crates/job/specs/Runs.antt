@@ -1,8 +1,7 @@
 -- What a job does: the lines that it prints and the calls that it makes, by the plain book. Assumes nothing.
-use Rattle.std.specs.Prelude.{◌≡◌, ℕ, Bool, true, cond, List, [], ◌∷◌, ◌++◌, length, Option, nat_le, nat_lt}
+use Rattle.std.specs.Prelude.{ℕ, Bool, true, cond, List, [], ◌∷◌, ◌++◌, length, Option, nat_le, nat_lt}
 use Rattle.cells.specs.declared.glyph.Glyph.{Glyph}
 use Rattle.cells.specs.Glyphs.{glyph_of, glyph_code}
-use Rattle.rows.specs.declared.Row.{Row}
 use Rattle.rows.specs.Strips.{strip}
 use Rattle.book.specs.Calls as book
 use Rattle.book.specs.Runs.{Sent}
@@ -22,13 +21,13 @@ most_glyphs = 8192
 abbrev pub work_places : ℕ
 work_places = 8192
 
--- how things stand between two commands: the book's rows, and the glyphs on the tray
+-- how things stand between two commands: the book, and the glyphs on the tray
 pub record Standing : Type 0 where
-  pub rows : List Row
+  pub book : book.Book
   pub tray : List Glyph
 
 abbrev pub nothing_yet : Standing
-nothing_yet = record { rows = []; tray = [] }
+nothing_yet = record { book = book.no_rows; tray = [] }
 
 -- the call on the shelf that a command is, if it is one
 abbrev pub calls_by : List Glyph → Command → List (Sent Glyph)
@@ -55,8 +54,8 @@ fits tray (Cut number part) = true
 fits tray (Places number pattern field) = true
 
 -- what a call comes to by the book of a glyph shelf
-abbrev pub turn : List Row → book.Call Glyph → book.Turn
-turn rows call = book.turn true glyph_code rows call work_places
+abbrev pub turn : book.Book → book.Call Glyph → book.Turn
+turn b call = book.turn true glyph_code b call work_places
 
 -- what a line tells
 pub data Told : Type 0 where
@@ -70,21 +69,21 @@ pub data Told : Type 0 where
 -- what a command tells, if it prints a line
 abbrev pub told_by : Standing → Command → List Told
 told_by s (put number) = []
-told_by s Take = of_take (turn s.rows (book.taking s.tray)).answer ∷ []
-told_by s (Join left right) = of_join (turn s.rows (book.joining left right)).answer ∷ []
-told_by s (Cut number part) = of_cut (turn s.rows (book.cutting number part.start part.length)).answer ∷ []
-told_by s (Places number pattern field) = of_places (places_outcome (strip s.rows number) pattern field) ∷ []
+told_by s Take = of_take (turn s.book (book.taking s.tray)).answer ∷ []
+told_by s (Join left right) = of_join (turn s.book (book.joining left right)).answer ∷ []
+told_by s (Cut number part) = of_cut (turn s.book (book.cutting number part.start part.length)).answer ∷ []
+told_by s (Places number pattern field) = of_places (places_outcome (strip s.book.rows number) pattern field) ∷ []
 
--- the book's rows after it
-abbrev pub rows_by : Standing → Command → List Row
-rows_by s (put number) = s.rows
-rows_by s Take = (turn s.rows (book.taking s.tray)).rows
-rows_by s (Join left right) = (turn s.rows (book.joining left right)).rows
-rows_by s (Cut number part) = (turn s.rows (book.cutting number part.start part.length)).rows
-rows_by s (Places number pattern field) = s.rows
+-- the book after it
+abbrev pub book_by : Standing → Command → book.Book
+book_by s (put number) = s.book
+book_by s Take = (turn s.book (book.taking s.tray)).book
+book_by s (Join left right) = (turn s.book (book.joining left right)).book
+book_by s (Cut number part) = (turn s.book (book.cutting number part.start part.length)).book
+book_by s (Places number pattern field) = s.book
 
 abbrev pub after : Standing → Command → Standing
-after s command = record { rows = rows_by s command; tray = tray_after s.tray command }
+after s command = record { book = book_by s command; tray = tray_after s.tray command }
 
 -- what the entries of a job tell: it stops where none can be read and where the tray is full
 abbrev pub told_from : Standing → List Entry → List Told
@@ -117,6 +116,3 @@ answers_in (of_cut a ∷ rest) = a ∷ answers_in rest
 answers_in (of_places found ∷ rest) = answers_in rest
 answers_in (stopped place ∷ rest) = answers_in rest
 answers_in (too_long ∷ rest) = answers_in rest
-
-abbrev pub same_glyph : Glyph → Glyph → Type 0
-same_glyph x y = x.0 ≡ y.0

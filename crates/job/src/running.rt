@@ -8,6 +8,8 @@ ghost use Rattle.job.specs.Runs.{nothing_yet, told_from};
 
 use crate::desk::Desk;
 use crate::line::Line;
+use book::law_of_the_book;
+use cells::Glyph;
 use std::alloc::{AllocError, Global};
 
 // The most bytes of a job.
@@ -50,6 +52,7 @@ pub fn run(heap: Global, job: &[u8]) -> Result<String, AllocError>
     ensures printed { IfOk result (λ text. string_bytes text ≡ printed_by job.now) }
     ensures law { IfOk result (λ text. LawfulPrintout job.now (string_bytes text)) }
 {
+    law_of_the_book::<Glyph>();
     if job.len() > MOST_BYTES {
         return Line::TooLong.bytes(heap);
     }
