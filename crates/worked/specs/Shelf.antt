@@ -6,7 +6,7 @@ use Rattle.rows.specs.declared.Row.{Row}
 use Rattle.rows.specs.declared.Shape.{Shape}
 use Rattle.rows.specs.declared.Shape.TheVariants.{Leaf, Pair, Repeat}
 use Rattle.rows.specs.Lawful.{lawful_row}
-use Rattle.book.specs.Calls.{Turn, answered, refused, refusing, taken, joined_up, cut_out}
+use Rattle.book.specs.Calls.{Book, Turn, numbered, refused, refusing, taken, joined_up, cut_out}
 use Rattle.worked.specs.Examples.{Examples}
 
 -- a row of that shape, length and round
@@ -38,17 +38,25 @@ eight_rows = seven_rows ++ (made_row (Pair 3 1) 3 4 ∷ [])
 abbrev pub nine_rows : List Row
 nine_rows = eight_rows ++ (made_row (Pair 2 3) 3 24 ∷ [])
 
--- a call is answered by a number and leaves these rows
+-- a book with these rows
+abbrev pub book_with : List Row → Book
+book_with rows = record { rows = rows }
+
+-- a call is answered by the number of a strip and leaves these rows
 abbrev pub answering : ℕ → List Row → Turn
-answering n rows = record { answer = answered n; rows = rows }
+answering n rows = record { answer = numbered n; book = book_with rows }
+
+-- a call is refused by this number and leaves the rows as they stood
+abbrev pub refused_on : List Row → ℕ → Turn
+refused_on rows number = refusing (book_with rows) (refused number)
 
 -- the glyphs with these numbers are taken, with so many work places
 abbrev pub take_glyphs : List Row → List ℕ → ℕ → Turn
-take_glyphs rows numbers places = taken true glyph_code rows (map glyph_of numbers) places
+take_glyphs rows numbers places = taken true glyph_code (book_with rows) (map glyph_of numbers) places
 
 -- the same for a shelf of another kind number
 abbrev pub take_other_kind : List Row → List ℕ → ℕ → Turn
-take_other_kind rows numbers places = taken false glyph_code rows (map glyph_of numbers) places
+take_other_kind rows numbers places = taken false glyph_code (book_with rows) (map glyph_of numbers) places
 
 abbrev pub shelf_examples : Examples
 shelf_examples =
@@ -61,9 +69,9 @@ shelf_examples =
     -- a repeat of a row that was there, and a pair of the repeat and a leaf
     ∷ (take_glyphs five_rows (5 ∷ 9 ∷ 5 ∷ 9 ∷ 5 ∷ []) 16 ≡ answering 7 seven_rows)
     -- 5, 9 and 5 joined
-    ∷ (joined_up seven_rows 3 1 16 ≡ answering 8 eight_rows)
+    ∷ (joined_up (book_with seven_rows) 3 1 16 ≡ answering 8 eight_rows)
     -- 9, 5, 9 out of 5, 9, 5, 9, 5
-    ∷ (cut_out eight_rows 7 1 3 16 ≡ answering 9 nine_rows)
+    ∷ (cut_out (book_with eight_rows) 7 1 3 16 ≡ answering 9 nine_rows)
     -- a strip that has a number keeps it, and no row is added
     ∷ (take_glyphs nine_rows (5 ∷ 9 ∷ []) 16 ≡ answering 3 nine_rows)
     -- row 7 keeps what a shelf promises of a row
@@ -71,11 +79,11 @@ shelf_examples =
     -- and so does row 9, made by a cut
     ∷ (lawful_row nine_rows 9 ≡ true)
     -- a shelf of another kind number
-    ∷ (take_other_kind nine_rows (5 ∷ 9 ∷ []) 16 ≡ refusing nine_rows (refused 1))
+    ∷ (take_other_kind nine_rows (5 ∷ 9 ∷ []) 16 ≡ refused_on nine_rows 1)
     -- two cells do not fit one work place, although their number is known
-    ∷ (take_glyphs nine_rows (5 ∷ 9 ∷ []) 1 ≡ refusing nine_rows (refused 4))
+    ∷ (take_glyphs nine_rows (5 ∷ 9 ∷ []) 1 ≡ refused_on nine_rows 4)
     -- nine rows have no number 10
-    ∷ (joined_up nine_rows 3 10 16 ≡ refusing nine_rows (refused 6))
+    ∷ (joined_up (book_with nine_rows) 3 10 16 ≡ refused_on nine_rows 6)
     -- four cells from 2 on leave a strip of five
-    ∷ (cut_out nine_rows 7 2 4 16 ≡ refusing nine_rows (refused 7))
+    ∷ (cut_out (book_with nine_rows) 7 2 4 16 ≡ refused_on nine_rows 7)
     ∷ []
