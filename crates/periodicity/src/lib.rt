@@ -1,5 +1,5 @@
-// Periodicity of strips: fragments, progressions and the facts that make the answers about
-// repetition short. Theory stands here; nothing in this crate reads a strip.
+//! Periodicity of strips: fragments, progressions and the facts that make the answers about
+//! repetition short. Theory stands here; nothing in this crate reads a strip.
 #![tactic(auto)]
 
 ghost use Rattle.std.specs.Prelude.{◌≡◌, Some};
@@ -9,7 +9,7 @@ ghost use Rattle.periodicity.specs.Laws.{TestsHold, CommonGreatest, DifferenceRe
 
 use std::fmt;
 
-// A part of a strip: where it starts, and how many codes it has.
+/// A part of a strip: where it starts, and how many codes it has.
 #[derive(Clone, Copy, PartialEq, Eq, Debug, Default)]
 pub struct Fragment {
     pub start: usize,
@@ -17,7 +17,7 @@ pub struct Fragment {
 }
 
 impl Fragment {
-    // Whether it lies within so many places; any numbers will do.
+    /// Whether it lies within so many places; any numbers will do.
     pub fn lies_within(self, len: usize) -> bool
         ensures { result ≡ within len self }
     {
@@ -25,7 +25,7 @@ impl Fragment {
     }
 }
 
-// An arithmetic progression of `count` numbers: first, first + step, and so on.
+/// An arithmetic progression of `count` numbers: first, first + step, and so on.
 #[derive(Clone, Copy, PartialEq, Eq, Debug, Default)]
 pub struct Progression {
     pub first: usize,
@@ -42,8 +42,20 @@ impl fmt::Display for Progression {
     }
 }
 
-// The laws of periodicity, which the answers to all questions rest on.
-fn laws_of_periodicity()
+/// The laws of periodicity, which the answers to all questions rest on. It does nothing when it is called: who
+/// proves something cites it.
+///
+/// - `tests`: two lists are the same exactly when they are equal, and a list passes the test of a period exactly
+///   when it has it.
+/// - `greatest`: the common length of two lists is the greatest in which they agree.
+/// - `difference`: the difference of two periods is a period, when their sum is at most the length.
+/// - `least`: the least period divides each other period, when their sum is at most the length.
+/// - `overlaps`: overlaps of lengths from d to 2d - 1 are a progression.
+/// - `places`: places in a field shorter than twice the pattern are a progression.
+/// - `overlaps_exact`: the overlaps listed are exactly those lengths in which the lists overlap.
+/// - `places_exact`: the places listed are exactly those where the pattern stands in the field.
+/// - `records`: the records of a list, joined, name all its periods, each once.
+pub fn laws_of_periodicity()
     ensures tests { TestsHold }
     ensures greatest { CommonGreatest }
     ensures difference { DifferenceRepeats }
