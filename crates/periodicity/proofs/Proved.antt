@@ -6,7 +6,7 @@ use Rattle.std.specs.List.{range_with_len}
 use Rattle.periodicity.specs.declared.Fragment.{Fragment}
 use Rattle.periodicity.specs.declared.Progression.{Progression}
 use Rattle.periodicity.specs.Agreement.{common}
-use Rattle.periodicity.specs.Laws.{TestsHold, CommonGreatest, DifferenceRepeats, LeastDivides, OverlapsProgress, PlacesProgress, OverlapsExact, PlacesExact, RecordsJoin}
+use Rattle.periodicity.specs.Laws.{TestsHold, CommonGreatest, DifferenceRepeats, LeastDivides, OverlapsProgress, PlacesProgress, OverlapsExact, PlacesExact, RecordsName}
 use Rattle.periodicity.specs.Overlaps.{is_overlap}
 use Rattle.periodicity.specs.Places.{is_place}
 use Rattle.periodicity.specs.Progressions.{progression_of, triple, Names}
@@ -15,7 +15,7 @@ use Rattle.periodicity.proofs.Agreements.{common_greatest}
 use Rattle.periodicity.proofs.OverlapsTold.{overlaps_tell, overlap_among}
 use Rattle.periodicity.proofs.PlacesTold.{places_told, place_among}
 use Rattle.periodicity.proofs.Ranges.{progression_of_tells, names_tells, least_in, stepwise_one}
-use Rattle.periodicity.proofs.RecordsTold.{written_name_all}
+use Rattle.periodicity.proofs.RecordsTold.{written_named}
 use Rattle.periodicity.proofs.Repeats.{repeats_less, repeats_mod}
 use Rattle.periodicity.proofs.Sameness.{at, equal_from_same, same_from_equal, period_from_test, test_from_period}
 
@@ -104,5 +104,5 @@ places_exact xs pattern field lies_pattern lies_field i =
     let in_field = leb-true (field.start + field.length) (length xs) lies_field in
     place_among xs pattern field in_strip in_field i
 
-pub records_join : RecordsJoin
-records_join xs some short = (written_name_all xs some short).1
+pub records_name : RecordsName
+records_name xs some short = written_named xs some short

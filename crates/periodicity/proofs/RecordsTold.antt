@@ -3,17 +3,19 @@
 use Rattle.std.proofs.Common.{◌≡◌, ℕ, zero, suc, ◌+◌, ◌-◌, ◌*◌, ◌^◌, ◌<◌, ◌≤◌, Bool, true, false, cond, ◌&&◌, ltb, leb, ◌↔◌, List, [], ◌∷◌, ◌++◌, length, take, drop, replicate, Some, None, filter, Option, sym, refl, ap, ◌∙◌, subst, inl, inr, arith, length-append, length-drop, length-take, get_or-drop, get_or-take}
 use lib.ListN.{length-replicate}
 use Rattle.std.specs.List.{range_with_len, flat_map, ContainsAt}
+use Rattle.std.specs.List.Sorted.{IsStrictlyIncreasing}
 use Rattle.std.specs.Option.{option_to_list, option_map}
 use Rattle.std.proofs.lemmas.Nat.{pow-add, pow_pos}
-use Rattle.std.proofs.lemmas.List.Elements.{filter-append}
+use Rattle.std.proofs.lemmas.List.Elements.{filter-append, All-replicate}
+use Rattle.std.proofs.lemmas.List.Kept.{IsStrictlyIncreasing-filter}
 use Rattle.std.proofs.lemmas.List.{append-nil, append_assoc}
 use Rattle.std.proofs.lemmas.Bool.{both_ways, cases_Bool, and_parts, and_from, and_left, and_right, le-leb, lt-leb, lt-ltb, le-ltb, leb-true, ltb-true}
 use Rattle.periodicity.specs.declared.Progression.{Progression}
 use Rattle.periodicity.specs.Overlaps.{is_overlap}
-use Rattle.periodicity.specs.Periods.{Period, has_period, periods_of, border_in, periods_in, records_below, records_of, written_records, PeriodsNamed}
+use Rattle.periodicity.specs.Periods.{Period, has_period, periods_of, border_in, periods_in, records_below, records_of, written_records, PeriodInRange, RangeByRange, PeriodsNamed}
 use Rattle.periodicity.specs.Progressions.{triple, named, named_by, progression_of, mirrored, Names}
 use Rattle.periodicity.specs.Ranges.{Stepwise, Tells}
-use Rattle.periodicity.proofs.Ranges.{kept_none, progression_of_tells, names_tells, pass_from_has, has_from_pass}
+use Rattle.periodicity.proofs.Ranges.{kept_none, progression_of_tells, names_tells, pass_from_has, has_from_pass, passes_ascend}
 use Rattle.periodicity.proofs.OverlapsTold.{overlaps_tell}
 use Rattle.periodicity.proofs.Sameness.{at, room_from_overlap, fit_from_overlap, overlap_from_fit, period_from_test, test_from_period}
 
@@ -312,12 +314,65 @@ period_among xs p = (
   λ period. has_from_pass (has_period xs) 1 (length xs) p period.0 (omega (arith, period.1)) (test_from_period xs p period.2),
 )
 
+-- the records of a list, range by range
+module _ (xs : List ℕ) (some : 1 ≤ length xs) where
+  -- a number is among the periods of a range exactly when it is one whose border lies there
+  range_among : (t p : ℕ) → ContainsAt (periods_in xs t) p ↔ PeriodInRange xs t p
+  range_among t p =
+      let joint = kept_by_twice (λ q. border_in t (length xs - q)) (has_period xs) (range_with_len 1 (length xs)) in
+      let test : ℕ → Bool = λ q. has_period xs q && border_in t (length xs - q) in (
+        λ has.
+            let kept = pass_from_has test 1 (length xs) p (subst (λ ys. ContainsAt ys p) joint has) in
+            let parts = and_parts (has_period xs p) (border_in t (length xs - p)) kept.2 in
+            let range = and_parts (leb (2 ^ t) (length xs - p)) (ltb (length xs - p) (2 ^ (t + 1))) parts.1 in
+            record {
+              positive = kept.0;
+              fits = omega (arith, kept.1);
+              period = period_from_test xs p parts.0;
+              border_from = leb-true (2 ^ t) (length xs - p) range.0;
+              border_below = ltb-true (length xs - p) (2 ^ (t + 1)) range.1;
+            },
+        λ is.
+            let range = and_from (leb (2 ^ t) (length xs - p)) (ltb (length xs - p) (2 ^ (t + 1))) (le-leb (2 ^ t) (length xs - p) is.border_from) (lt-ltb (length xs - p) (2 ^ (t + 1)) is.border_below) in
+            subst (λ ys. ContainsAt ys p) (sym joint)
+            (has_from_pass test 1 (length xs) p is.positive (omega (arith, is.fits)) (and_from (has_period xs p) (border_in t (length xs - p)) (test_from_period xs p is.period) range)),
+      )
+
+  -- one more range, by what its periods are told by
+  range_first : (t : ℕ) (answer : Option Progression) (rest : List Progression) → Names answer (periods_in xs t) → RangeByRange xs t rest
+      → RangeByRange xs (suc t) (option_to_list answer ++ rest)
+  range_first t None rest names below =
+      inl (λ p is. let has = subst (λ ys. ContainsAt ys p) (sym names.all) ((range_among t p).1 is) in absurd (omega (arith, has.1)), below)
+  range_first t (Some r) rest names below =
+      inr (
+        r,
+        rest,
+        refl,
+        record {
+          proper = names.proper;
+          ascending = subst (λ ys. IsStrictlyIncreasing ys) (sym names.all) (IsStrictlyIncreasing-filter (λ p. border_in t (length xs - p)) (periods_of xs) (passes_ascend (has_period xs) 1 (length xs)));
+          exact = λ p. subst (λ ys. ContainsAt ys p ↔ PeriodInRange xs t p) (sym names.all) (range_among t p);
+        },
+        below,
+      )
+
+  -- the records of the ranges below t, and zeros after them
+  pub ranges_named : (t k : ℕ) → RangeByRange xs t (records_below xs t ++ replicate k (triple 0 0 0))
+  unfolding records_below
+  ranges_named zero k = (replicate k (triple 0 0 0), refl, All-replicate (λ r. r ≡ triple 0 0 0) k (triple 0 0 0) refl)
+  ranges_named (suc t) k =
+      let answer = progression_of (periods_in xs t) in
+      let zeros = replicate k (triple 0 0 0) in
+      subst (λ rs. RangeByRange xs (suc t) rs) (sym (append_assoc (option_to_list answer) (records_below xs t) zeros))
+      (range_first t answer (records_below xs t ++ zeros) (range_named xs some t) (ranges_named t k))
+
 -- the 17 records that are written, in their ranges and order, name exactly the periods, each once
 pub written_named : (xs : List ℕ) → 1 ≤ length xs → length xs ≤ 65535 → PeriodsNamed xs (written_records xs)
+unfolding written_records
 written_named xs some short =
     let all = (written_name_all xs some short).1 in
     record {
-      ranges = refl;
+      ranges = ranges_named xs some 16 (17 - length (records_of xs));
       once = all;
       exact = λ p. subst (λ ys. ContainsAt ys p ↔ ((1 ≤ p) × (p ≤ length xs) × Period xs p)) (sym all) (period_among xs p);
     }

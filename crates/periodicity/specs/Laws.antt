@@ -1,13 +1,13 @@
 -- The facts of periodicity that the answers rest on, each in one statement. Assumes nothing.
 use Rattle.std.specs.Prelude.{◌≡◌, ℕ, ◌+◌, ◌-◌, ◌*◌, ◌%◌, ◌<◌, ◌≤◌, true, ◌↔◌, List, length}
-use Rattle.std.specs.List.{flat_map, ContainsAt}
+use Rattle.std.specs.List.{ContainsAt}
 use Rattle.periodicity.specs.declared.Fragment.{Fragment}
 use Rattle.periodicity.specs.Agreement.{same, common, Greatest}
 use Rattle.periodicity.specs.Fragments.{inside}
 use Rattle.periodicity.specs.Overlaps.{overlaps_of, Overlap}
-use Rattle.periodicity.specs.Periods.{Period, has_period, periods_of, written_records}
+use Rattle.periodicity.specs.Periods.{Period, has_period, written_records, PeriodsNamed}
 use Rattle.periodicity.specs.Places.{places_of, PlaceIn}
-use Rattle.periodicity.specs.Progressions.{progression_of, named_by, Names}
+use Rattle.periodicity.specs.Progressions.{progression_of, Names}
 
 -- the tests mean what they say: two lists are the same exactly when they are equal, and a list passes the
 -- test of a period exactly when it has it
@@ -44,6 +44,6 @@ abbrev pub PlacesExact : Type 0
 PlacesExact = (xs : List ℕ) (pattern field : Fragment) → inside xs pattern ≡ true → inside xs field ≡ true
     → (i : ℕ) → ContainsAt (places_of xs pattern field) i ↔ PlaceIn xs pattern field i
 
--- the records of a list, joined, name all its periods, each once
-abbrev pub RecordsJoin : Type 0
-RecordsJoin = (xs : List ℕ) → 1 ≤ length xs → length xs ≤ 65535 → flat_map named_by (written_records xs) ≡ periods_of xs
+-- the records of a list name its periods, range of borders by range, and joined all of them, each once
+abbrev pub RecordsName : Type 0
+RecordsName = (xs : List ℕ) → 1 ≤ length xs → length xs ≤ 65535 → PeriodsNamed xs (written_records xs)

@@ -1,10 +1,11 @@
 -- Periods and borders of a list, and the records that name them. Assumes nothing.
-use Rattle.std.specs.Prelude.{◌≡◌, ℕ, zero, suc, ◌+◌, ◌-◌, ◌^◌, ◌<◌, ◌≤◌, Bool, ◌&&◌, ◌↔◌, List, [], ◌∷◌, ◌++◌, length, take, drop, replicate, filter, nat_le, nat_lt, slice_index}
-use Rattle.std.specs.List.{range_with_len, flat_map, ContainsAt}
+use Rattle.std.specs.Prelude.{◌≡◌, ℕ, zero, suc, ◌+◌, ◌-◌, ◌^◌, ◌<◌, ◌≤◌, Bool, ◌&&◌, ◌↔◌, ◌⊎◌, List, [], ◌∷◌, ◌++◌, length, take, drop, replicate, filter, nat_le, nat_lt, slice_index}
+use Rattle.std.specs.List.{range_with_len, flat_map, ContainsAt, All}
+use Rattle.std.specs.List.Sorted.{IsStrictlyIncreasing}
 use Rattle.std.specs.Option.{option_to_list}
 use Rattle.periodicity.specs.declared.Progression.{Progression}
 use Rattle.periodicity.specs.Agreement.{same}
-use Rattle.periodicity.specs.Progressions.{triple, named_by, progression_of}
+use Rattle.periodicity.specs.Progressions.{triple, named_by, progression_of, Proper}
 
 -- p is a period: every code equals the one p further on, where there is one
 abbrev pub Period : List ℕ → ℕ → Type 0
@@ -40,11 +41,34 @@ records_of xs = records_below xs 16
 unfoldable pub written_records : List ℕ → List Progression
 written_records xs = records_of xs ++ replicate (17 - length (records_of xs)) (triple 0 0 0)
 
+-- p is a period whose border, the length less p, is from 2^t to 2^(t+1) − 1
+pub record PeriodInRange (xs : List ℕ) (t p : ℕ) : Type 0 where
+  pub positive : 1 ≤ p
+  pub fits : p ≤ length xs
+  pub period : Period xs p
+  pub border_from : 2 ^ t ≤ length xs - p
+  pub border_below : length xs - p < 2 ^ (t + 1)
+
+-- a record names at least one number, each once, ascending, and exactly the periods whose borders lie in range t
+pub record RangeNamed (xs : List ℕ) (t : ℕ) (r : Progression) : Type 0 where
+  pub proper : Proper r
+  pub ascending : IsStrictlyIncreasing (named_by r)
+  pub exact : (p : ℕ) → ContainsAt (named_by r) p ↔ PeriodInRange xs t p
+
+-- records name the periods range by range, from the range next below t down. A range in which no border lies has no
+-- record; else the record in front names the range. Below range 0 stands the record of border 0, which names the
+-- length alone, and after it are three zeros for each record that is not in use
+abbrev pub RangeByRange : List ℕ → ℕ → List Progression → Type 0
+RangeByRange xs zero records = (rest : List Progression) × (records ≡ triple (length xs) 0 1 ∷ rest) × All (λ r. r ≡ triple 0 0 0) rest
+RangeByRange xs (suc t) records =
+    (((p : ℕ) → PeriodInRange xs t p → ⊥) × RangeByRange xs t records)
+    ⊎ ((r : Progression) × (rest : List Progression) × (records ≡ r ∷ rest) × RangeNamed xs t r × RangeByRange xs t rest)
+
 -- what 17 records say of the periods of a list
 pub record PeriodsNamed (xs : List ℕ) (records : List Progression) : Type 0 where
-  -- they are those of the ranges of borders, the greatest range first and border 0 last, then three zeros
-  -- for each that is not in use
-  pub ranges : records ≡ written_records xs
+  -- each in use names the periods of one range of borders, the greatest range first and border 0 last; borders of
+  -- at most 65,535 codes are below 2^16
+  pub ranges : RangeByRange xs 16 records
   -- one record after the other, they name all periods, ascending, each once
   pub once : flat_map named_by records ≡ periods_of xs
   -- a number is among those exactly when it is a distance, from 1 to the length, at which the list agrees

@@ -5,7 +5,7 @@
 ghost use Rattle.std.specs.Prelude.{◌≡◌, Some};
 ghost use Rattle.periodicity.specs.Fragments.{within};
 ghost use Rattle.periodicity.specs.Progressions.{triple_text};
-ghost use Rattle.periodicity.specs.Laws.{TestsHold, CommonGreatest, DifferenceRepeats, LeastDivides, OverlapsProgress, PlacesProgress, OverlapsExact, PlacesExact, RecordsJoin};
+ghost use Rattle.periodicity.specs.Laws.{TestsHold, CommonGreatest, DifferenceRepeats, LeastDivides, OverlapsProgress, PlacesProgress, OverlapsExact, PlacesExact, RecordsName};
 
 use std::fmt;
 
@@ -54,7 +54,7 @@ impl fmt::Display for Progression {
 /// - `places`: places in a field shorter than twice the pattern are a progression.
 /// - `overlaps_exact`: the overlaps listed are exactly those lengths in which the lists overlap.
 /// - `places_exact`: the places listed are exactly those where the pattern stands in the field.
-/// - `records`: the records of a list, joined, name all its periods, each once.
+/// - `records`: the records of a list name its periods, range of borders by range, and joined all of them, each once.
 pub fn laws_of_periodicity()
     ensures tests { TestsHold }
     ensures greatest { CommonGreatest }
@@ -64,5 +64,5 @@ pub fn laws_of_periodicity()
     ensures places { PlacesProgress }
     ensures overlaps_exact { OverlapsExact }
     ensures places_exact { PlacesExact }
-    ensures records { RecordsJoin }
+    ensures records { RecordsName }
 {}

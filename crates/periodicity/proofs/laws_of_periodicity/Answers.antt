@@ -1,4 +1,4 @@
-use Rattle.periodicity.proofs.Proved.{tests_hold, greatest_common, difference_repeats, least_divides, overlaps_progress, places_progress, overlaps_exact, places_exact, records_join}
+use Rattle.periodicity.proofs.Proved.{tests_hold, greatest_common, difference_repeats, least_divides, overlaps_progress, places_progress, overlaps_exact, places_exact, records_name}
 use Rattle.periodicity.proofs.laws_of_periodicity.Goals as goal
 
 pub returns : goal.returns
@@ -12,5 +12,5 @@ returns c =
       places = places_progress;
       overlaps_exact = overlaps_exact;
       places_exact = places_exact;
-      records = records_join;
+      records = records_name;
     }
