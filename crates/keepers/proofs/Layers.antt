@@ -1,10 +1,9 @@
 -- The answers of a window and of a reversed layer, from those of the list below. Assumes nothing.
-use Rattle.std.proofs.Common.{◌≡◌, ℕ, ◌-◌, min, List, reverse, length, take, drop, sym, ◌∙◌, arith}
+use Rattle.std.proofs.Common.{◌≡◌, ℕ, ◌-◌, min, List, length, take, drop, sym, ◌∙◌, arith}
 use lib.ListN.{length-reverse}
 use Rattle.periodicity.proofs.Agreements.{length_window, window_inside, code_window, ahead_window, behind_window, code_reverse, ahead_reverse, behind_reverse}
 use Rattle.keepers.specs.declared.side.Side.TheVariants.{Ahead, Behind}
 use Rattle.keepers.specs.Layers.{capped, WindowAnswers, ReversedAnswers}
-use Rattle.keepers.proofs.Greatests.{extensions_greatest}
 
 pub window_answers : (below : List ℕ) (from size first len : ℕ) → first ≡ min from (length below) → len ≡ min size (length below - first) → WindowAnswers below from size (record { start = first; length = len })
 unfolding capped
@@ -15,7 +14,6 @@ window_answers below from size first len starts longs =
       inside = window_inside below size from first len starts long;
       code = code_window below size from first len starts long;
       extension = elim [ Ahead ↦ ahead_window below size from first len starts long | Behind ↦ behind_window below size from first len starts long ];
-      greatest = extensions_greatest (take size (drop from below));
     }
 
 pub reversed_answers : (below : List ℕ) (many : ℕ) → many ≡ length below → ReversedAnswers below many
@@ -24,5 +22,4 @@ reversed_answers below many long =
       long = long ∙ sym (length-reverse below);
       code = code_reverse below many long;
       extension = elim [ Ahead ↦ ahead_reverse below many long | Behind ↦ behind_reverse below many long ];
-      greatest = extensions_greatest (reverse below);
     }

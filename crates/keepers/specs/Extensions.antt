@@ -1,7 +1,7 @@
 -- What the longest common extensions of two places are, in words that name no way to find them.
 -- Assumes nothing.
-use Rattle.std.specs.Prelude.{◌≡◌, ℕ, ◌<◌, ◌≤◌, ◌⊎◌, List, reverse, length, take, drop, Option, MatchOption}
-use Rattle.periodicity.specs.Agreement.{Greatest, ahead_of, behind_of}
+use Rattle.std.specs.Prelude.{ℕ, ◌<◌, ◌≤◌, ◌⊎◌, List, reverse, length, take, drop, Option, MatchOption}
+use Rattle.periodicity.specs.Agreement.{Greatest}
 
 -- n answers for the places i and j of a strip: both lie within it, and n is the greatest number of codes
 -- in which `left` and `right`, what lies on one side of i and on the same side of j, agree
@@ -22,8 +22,3 @@ GreatestAhead strip i j answer = Longest strip i j (drop i strip) (drop j strip)
 -- behind two places lies what comes just before them, going back
 abbrev pub GreatestBehind : List ℕ → ℕ → ℕ → Option ℕ → Type 0
 GreatestBehind strip i j answer = Longest strip i j (reverse (take i strip)) (reverse (take j strip)) answer
-
--- the theorem of a strip: what the definitions answer is the greatest
-pub record ExtensionsGreatest (strip : List ℕ) : Type 0 where
-  pub ahead : (i j : ℕ) (answer : Option ℕ) → answer ≡ ahead_of strip i j → GreatestAhead strip i j answer
-  pub behind : (i j : ℕ) (answer : Option ℕ) → answer ≡ behind_of strip i j → GreatestBehind strip i j answer

@@ -1,5 +1,5 @@
 -- The two sides of a place, and the longest common extensions on either. Assumes nothing.
-use Rattle.std.specs.Prelude.{ℕ, ◌-◌, min, max, List, Option}
+use Rattle.std.specs.Prelude.{◌≡◌, ℕ, ◌-◌, ◌↔◌, min, max, List, Option}
 use Rattle.periodicity.specs.Agreement.{ahead_of, behind_of}
 use Rattle.keepers.specs.Extensions.{GreatestAhead, GreatestBehind}
 use Rattle.keepers.specs.declared.side.Side.{Side}
@@ -14,6 +14,10 @@ extension_of Behind strip i j = behind_of strip i j
 abbrev pub GreatestOn : Side → List ℕ → ℕ → ℕ → Option ℕ → Type 0
 GreatestOn Ahead strip i j answer = GreatestAhead strip i j answer
 GreatestOn Behind strip i j answer = GreatestBehind strip i j answer
+
+-- the theorem of the extensions: an answer is the one that is defined exactly when it is the greatest
+abbrev pub ExtensionsGreatest : Type 0
+ExtensionsGreatest = (side : Side) (strip : List ℕ) (i j : ℕ) (answer : Option ℕ) → (answer ≡ extension_of side strip i j) ↔ GreatestOn side strip i j answer
 
 -- the side that it is in the same list backwards
 abbrev pub turned : Side → Side

@@ -1,4 +1,4 @@
-// A loose strip: a keeper of the caller's own codes, compared code by code.
+//! A loose strip: a keeper of the caller's own codes, compared code by code.
 
 ghost use Rattle.std.specs.Prelude.{◌≡◌, ◌≤◌, reverse, length, take, drop};
 ghost use Rattle.periodicity.specs.Agreement.{common};
@@ -6,7 +6,7 @@ ghost use Rattle.keepers.specs.Shortness.{most_codes, ShortList};
 
 use crate::{Keeper, MAX_CODES, Side};
 
-// The caller's codes, the first `MAX_CODES` of them.
+/// The caller's codes, the first `MAX_CODES` of them.
 #[derive(Clone, Copy)]
 pub struct LooseStrip<'a> {
     kept: &'a [u32],
@@ -16,6 +16,7 @@ pub struct LooseStrip<'a> {
 impl<'a> LooseStrip<'a> {
     ghost use Rattle.keepers.specs.LooseStrip.{kept_codes};
 
+    /// Of more codes than `MAX_CODES` the first are kept, without a word.
     pub fn new(codes: &'a [u32]) -> Self
         ensures { kept_codes result ≡ take most_codes codes.now }
     {
@@ -35,8 +36,7 @@ fn first_codes(codes: &[u32], most: usize) -> &[u32]
     &codes[..count]
 }
 
-// How many codes agree from the start of both lists on. This chain and the next are two, since one over any
-// iterators would have to say in its contract what they yield.
+// How many codes agree from the start of both lists on.
 fn agreeing_ahead(left: &[u32], right: &[u32]) -> usize
     ensures { result ≡ common left.now right.now }
 {
@@ -72,7 +72,7 @@ impl Keeper for LooseStrip<'_> {
         self.kept.get(place).copied()
     }
 
-    #[tactic(auto, using(crate::proofs::Greatests::greatest_on, crate::proofs::Greatests::ahead_counted_greatest))]
+    #[tactic(auto, using(crate::proofs::Greatests::ahead_counted))]
     fn extension(&self, side: Side, i: usize, j: usize) -> Option<usize> {
         let len = self.len();
         if i > len || j > len {

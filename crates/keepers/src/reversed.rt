@@ -1,4 +1,4 @@
-// A reversed layer: what another keeper stands for, from its end to its start.
+//! A reversed layer: what another keeper stands for, from its end to its start.
 
 ghost use Rattle.std.specs.Prelude.{reverse};
 ghost use Rattle.std.proofs.lemmas.List.{length-reverse};
@@ -6,6 +6,7 @@ ghost use Rattle.keepers.specs.Layers.{ReversedAnswers};
 
 use crate::{Keeper, Side};
 
+/// The codes of the keeper below, the last one first.
 #[derive(Clone, Copy)]
 pub struct Reversed<K> {
     pub below: K,

@@ -1,4 +1,4 @@
-// A shared reference to a keeper is a keeper, so that layers can stand on one that is borrowed.
+//! A shared reference to a keeper is a keeper, so that layers can stand on one that is borrowed.
 
 use crate::{Keeper, Side};
 

@@ -1,14 +1,14 @@
-// The two sides of a place.
+//! The two sides of a place.
 
 ghost use Rattle.std.specs.Prelude.{◌≡◌, ◌≤◌};
 ghost use Rattle.keepers.specs.Sides.{turned, room_on};
 
-// On which side of two places codes are compared.
+/// On which side of two places codes are compared.
 #[derive(Clone, Copy, PartialEq, Eq, Debug)]
 pub enum Side {
-    // From the places on.
+    /// From the places on.
     Ahead,
-    // Just before the places, going back.
+    /// Just before the places, going back.
     Behind,
 }
 

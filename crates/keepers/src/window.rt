@@ -1,4 +1,4 @@
-// A window: a part of what another keeper stands for.
+//! A window: a part of what another keeper stands for.
 
 ghost use Rattle.std.specs.Prelude.{◌≡◌};
 ghost use Rattle.std.proofs.Common.{arith};
@@ -9,8 +9,8 @@ ghost use Rattle.keepers.specs.Layers.{capped, WindowAnswers};
 use crate::{Keeper, Side};
 use periodicity::Fragment;
 
-// Any part will do: the window starts at the smaller of the part's start and the length below, and has the
-// part's length or, where fewer codes remain, those.
+/// Any part will do: the window starts at the smaller of the part's start and the length below, and has the
+/// part's length or, where fewer codes remain, those.
 #[derive(Clone, Copy)]
 pub struct Window<K> {
     pub below: K,

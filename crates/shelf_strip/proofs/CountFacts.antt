@@ -6,8 +6,7 @@ use Rattle.rows.specs.declared.Row.{Row}
 use Rattle.rows.specs.Strips.{strip}
 use Rattle.keepers.specs.declared.side.Side.{Side}
 use Rattle.keepers.specs.declared.side.Side.TheVariants.{Behind}
-use Rattle.keepers.specs.Sides.{extension_of, GreatestOn}
-use Rattle.keepers.proofs.Greatests.{greatest_on}
+use Rattle.keepers.specs.Sides.{extension_of}
 use Rattle.shelf_strip.specs.Sides.{seen}
 use Rattle.shelf_strip.specs.Cursors.{at_place, Stands, Steps}
 use Rattle.shelf_strip.proofs.CursorFacts.{under_plain}
@@ -70,7 +69,3 @@ pub behind_seen : (side : Side) (xs : List ℕ) (long i j n : ℕ) → side ≡ 
 behind_seen side xs long i j n is same i_in j_in counted =
     let both = ap₂ common (back_from xs long i same i_in) (back_from xs long j same j_in) in
     ap Some (counted ∙ both) ∙ sym (behind_within xs i j i_in j_in) ∙ ap (λ s. extension_of s xs i j) (sym is)
-
-pub behind_seen_greatest : (side : Side) (xs : List ℕ) (long i j n : ℕ) → side ≡ Behind → long ≡ length xs → i ≤ length xs → j ≤ length xs → n ≡ common (drop (long - i) (reverse xs)) (drop (long - j) (reverse xs)) → GreatestOn side xs i j (Some n)
-behind_seen_greatest side xs long i j n is same i_in j_in counted =
-    greatest_on side xs i j (Some n) (behind_seen side xs long i j n is same i_in j_in counted)

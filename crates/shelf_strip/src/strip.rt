@@ -77,7 +77,7 @@ impl Keeper for ShelfStrip<'_> {
         self.shelf.code_at(self.number, place)
     }
 
-    #[tactic(auto, using(keepers::proofs::Greatests::greatest_on, crate::proofs::CountFacts::behind_seen, crate::proofs::CountFacts::behind_seen_greatest))]
+    #[tactic(auto, using(crate::proofs::CountFacts::behind_seen))]
     fn extension(&self, side: Side, i: usize, j: usize) -> Option<usize> {
         let len = self.len();
         if i > len || j > len {
