@@ -1,14 +1,12 @@
 -- The laws of the three questions: unless a check refuses, an answer names exactly what is there.
 -- Assumes nothing.
 use Rattle.std.specs.Prelude.{◌≡◌, ℕ, Bool, List, take, Some, None, Ok, Err, Option, Result}
-use Rattle.std.specs.List.{flat_map}
 use Rattle.periodicity.specs.declared.Fragment.{Fragment}
 use Rattle.periodicity.specs.declared.Progression.{Progression}
 use Rattle.periodicity.specs.Fragments.{cut}
 use Rattle.periodicity.specs.Places.{PlacesNamed}
 use Rattle.periodicity.specs.Overlaps.{is_overlap, OverlapsNamed}
-use Rattle.periodicity.specs.Periods.{periods_of, PeriodsNamed}
-use Rattle.periodicity.specs.Progressions.{named_by}
+use Rattle.periodicity.specs.Periods.{PeriodsNamed}
 use Rattle.questions.specs.declared.refusal.Refusal.{Refusal}
 use Rattle.questions.specs.Outcomes.{refusal_number, places_check, overlaps_check, periods_check}
 
@@ -32,13 +30,8 @@ PlacesLaw xs pattern field r = UnlessRefused (places_check xs pattern field) r (
 abbrev pub OverlapsLaw : List ℕ → Fragment → Fragment → ℕ → Result (Option Progression) Refusal → Type 0
 OverlapsLaw xs first second least r = UnlessRefused (overlaps_check xs first second least) r (OverlapsNamed (cut xs first) (cut xs second) least)
 
--- the numbers that the 17 records name, one record after the other, are all periods of the fragment, each once
+-- the first 17 records name, range of borders by range, exactly the distances at which the fragment agrees with
+-- itself, which are its periods, ascending, each once
 abbrev pub PeriodsLaw : List ℕ → Fragment → ℕ → List Progression → Result (Unit {0}) Refusal → Type 0
 PeriodsLaw xs fragment supplied records r =
-    UnlessRefused (periods_check xs fragment supplied) r (λ _. flat_map named_by (take 17 records) ≡ periods_of (cut xs fragment))
-
--- the 17 records, in their ranges and order, name exactly the distances at which the fragment agrees with
--- itself, which are its periods, ascending, each once
-abbrev pub PeriodsNamedLaw : List ℕ → Fragment → ℕ → List Progression → Result (Unit {0}) Refusal → Type 0
-PeriodsNamedLaw xs fragment supplied records r =
     UnlessRefused (periods_check xs fragment supplied) r (λ _. PeriodsNamed (cut xs fragment) (take 17 records))

@@ -7,7 +7,7 @@ ghost use Rattle.periodicity.specs.declared.Progression.{Progression};
 ghost use Rattle.periodicity.specs.Fragments.{cut};
 ghost use Rattle.periodicity.specs.Periods.{periods_in, written_records};
 ghost use Rattle.periodicity.specs.Progressions.{progression_of, triple, mirrored};
-ghost use Rattle.questions.specs.Answers.{PeriodsLaw, PeriodsNamedLaw};
+ghost use Rattle.questions.specs.Answers.{PeriodsLaw};
 ghost use Rattle.questions.specs.Outcomes.{outcome, refusal_number, checked, periods_check, after_periods};
 
 use crate::alone::alone;
@@ -148,7 +148,6 @@ pub fn periods<K: Keeper>(
     ensures value { outcome result ≡ checked (periods_check (K.codes keeper.now) fragment (length records.old)) tt }
     ensures written { records.new ≡ after_periods (periods_check (K.codes keeper.now) fragment (length records.old)) (cut (K.codes keeper.now) fragment) records.old }
     ensures law { PeriodsLaw (K.codes keeper.now) fragment (length records.old) records.new result }
-    ensures named { PeriodsNamedLaw (K.codes keeper.now) fragment (length records.old) records.new result }
 {
     let part = Part::of(keeper, fragment)?;
     if records.len() < RECORDS {

@@ -9,8 +9,8 @@ use Rattle.questions.specs.Outcomes.{periods_check}
 use Rattle.questions.proofs.Writes.{all_written}
 use Rattle.questions.proofs.period.periods.Goals as goal
 
-pub returns-clause-named : goal.returns-clause-named
-returns-clause-named g c =
+pub returns-clause-law : goal.returns-clause-law
+returns-clause-law g c =
     let part = c.in_ok-part.part in
     let same = c.in_ok-part.ensures.part in
     let old = c.args.records.now in
@@ -21,6 +21,3 @@ returns-clause-named g c =
     let long = length_part xs part.fragment.start part.fragment.length part.lies in
     let first : take 17 after ≡ written_records w = ap (take 17) c.write_records.ensures ∙ take_at (written_records w) (drop 17 old) 17 (all_written w).1 in
     rw (← same.0, ← same.1) (unchecked, subst (λ rs. PeriodsNamed w rs) (sym first) (written_named w (omega (arith, part.some)) (omega (arith, g.met.K.Keeper.short part.keeper.now))))
-
-pub returns-clause-law : goal.returns-clause-law
-returns-clause-law g c = let named = returns-clause-named g c in (named.0, named.1.once)
