@@ -8,17 +8,16 @@ use Rattle.periodicity.specs.Places.{PlacesNamed}
 use Rattle.periodicity.specs.Overlaps.{is_overlap, OverlapsNamed}
 use Rattle.periodicity.specs.Periods.{PeriodsNamed}
 use Rattle.questions.specs.declared.refusal.Refusal.{Refusal}
-use Rattle.questions.specs.Outcomes.{refusal_number, places_check, overlaps_check, periods_check}
+use Rattle.questions.specs.Outcomes.{places_check, overlaps_check, periods_check}
 
 -- whether two fragments of a strip overlap in so many codes
 abbrev pub overlap_in : List ℕ → Fragment → Fragment → ℕ → Bool
 overlap_in xs first second = is_overlap (cut xs first) (cut xs second)
 
--- a call is refused exactly when a check applies, by the number of the first that does; else its answer
--- keeps the promise
-abbrev pub UnlessRefused : {A : Type 0} → Option ℕ → Result A Refusal → (A → Type 0) → Type 0
+-- a call is refused exactly when a check applies, by the first that does; else its answer keeps the promise
+abbrev pub UnlessRefused : {A : Type 0} → Option Refusal → Result A Refusal → (A → Type 0) → Type 0
 UnlessRefused check (Ok a) Promise = (check ≡ None) × Promise a
-UnlessRefused check (Err e) Promise = check ≡ Some (refusal_number e)
+UnlessRefused check (Err refusal) Promise = check ≡ Some refusal
 
 -- first, step and count name exactly the places where the pattern's codes stand in the field, ascending, each
 -- once

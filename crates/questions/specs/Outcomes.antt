@@ -1,4 +1,4 @@
--- Refusals by number, and what a question comes to. Assumes nothing.
+-- Refusals, their numbers and sentences, and what a question comes to. Assumes nothing.
 use Rattle.std.specs.Prelude.{ℕ, ◌*◌, cond, ◌&&◌, List, ◌++◌, drop, Some, None, Ok, Err, codes as ascii, Option, Result, ◌==◌, nat_le, nat_lt}
 use Rattle.periodicity.specs.declared.Fragment.{Fragment}
 use Rattle.periodicity.specs.declared.Progression.{Progression}
@@ -10,7 +10,7 @@ use Rattle.periodicity.specs.Progressions.{progression_of}
 use Rattle.questions.specs.declared.refusal.Refusal.{Refusal}
 use Rattle.questions.specs.declared.refusal.Refusal.TheVariants.{FragmentLeavesStrip, FieldTooLong, ZeroOverlap, EmptyFragment, TooFewRecords}
 
--- the number of each refusal
+-- the number of each refusal, which nothing else tells
 abbrev pub refusal_number : Refusal → ℕ
 refusal_number FragmentLeavesStrip = 7
 refusal_number FieldTooLong = 8
@@ -31,30 +31,30 @@ pub data Outcome (A : Type 0) : Type 0 where
   answered : A → Outcome A
   refused : ℕ → Outcome A
 
--- the outcome that a call's result stands for
+-- the outcome that a call's result stands for: the refusal's number, or the answer
 abbrev pub outcome : {A : Type 0} → Result A Refusal → Outcome A
 outcome (Ok a) = answered a
 outcome (Err e) = refused (refusal_number e)
 
 -- the answer, unless a check refuses
-abbrev pub checked : {A : Type 0} → Option ℕ → A → Outcome A
+abbrev pub checked : {A : Type 0} → Option Refusal → A → Outcome A
 checked None a = answered a
-checked (Some number) a = refused number
+checked (Some refusal) a = refused (refusal_number refusal)
 
--- the first check of each question that applies: a fragment leaves the strip; then the field is at least
--- twice the pattern's length
-abbrev pub places_check : List ℕ → Fragment → Fragment → Option ℕ
+-- the refusal of the first check of each question that applies: a fragment leaves the strip; then the field is at
+-- least twice the pattern's length
+abbrev pub places_check : List ℕ → Fragment → Fragment → Option Refusal
 places_check xs pattern field =
-    cond (inside xs pattern && inside xs field) (cond (nat_le (2 * pattern.length) field.length) (Some 8) None) (Some 7)
+    cond (inside xs pattern && inside xs field) (cond (nat_le (2 * pattern.length) field.length) (Some FieldTooLong) None) (Some FragmentLeavesStrip)
 
 -- .. then the least length is 0
-abbrev pub overlaps_check : List ℕ → Fragment → Fragment → ℕ → Option ℕ
-overlaps_check xs first second least = cond (inside xs first && inside xs second) (cond (least == 0) (Some 9) None) (Some 7)
+abbrev pub overlaps_check : List ℕ → Fragment → Fragment → ℕ → Option Refusal
+overlaps_check xs first second least = cond (inside xs first && inside xs second) (cond (least == 0) (Some ZeroOverlap) None) (Some FragmentLeavesStrip)
 
 -- .. then the fragment is empty, then fewer than 17 records are supplied
-abbrev pub periods_check : List ℕ → Fragment → ℕ → Option ℕ
+abbrev pub periods_check : List ℕ → Fragment → ℕ → Option Refusal
 periods_check xs fragment supplied =
-    cond (inside xs fragment) (cond (fragment.length == 0) (Some 10) (cond (nat_lt supplied 17) (Some 11) None)) (Some 7)
+    cond (inside xs fragment) (cond (fragment.length == 0) (Some EmptyFragment) (cond (nat_lt supplied 17) (Some TooFewRecords) None)) (Some FragmentLeavesStrip)
 
 -- what each question comes to
 abbrev pub places_outcome : List ℕ → Fragment → Fragment → Outcome (Option Progression)
@@ -65,6 +65,6 @@ overlaps_outcome xs first second least = checked (overlaps_check xs first second
 
 -- the caller's records after the question: the first 17 written, the others as they were; all as they
 -- were when a check refuses
-abbrev pub after_periods : Option ℕ → List ℕ → List Progression → List Progression
+abbrev pub after_periods : Option Refusal → List ℕ → List Progression → List Progression
 after_periods None codes old = written_records codes ++ drop 17 old
-after_periods (Some number) codes old = old
+after_periods (Some refusal) codes old = old

@@ -8,7 +8,7 @@ ghost use Rattle.periodicity.specs.Fragments.{cut};
 ghost use Rattle.periodicity.specs.Periods.{periods_in, written_records};
 ghost use Rattle.periodicity.specs.Progressions.{progression_of, triple, mirrored};
 ghost use Rattle.questions.specs.Answers.{PeriodsLaw};
-ghost use Rattle.questions.specs.Outcomes.{outcome, refusal_number, checked, periods_check, after_periods};
+ghost use Rattle.questions.specs.Outcomes.{outcome, checked, periods_check, after_periods};
 
 use crate::alone::alone;
 use crate::parts::{Parts, check_lies};
@@ -80,7 +80,7 @@ impl<'a, K: Keeper> Part<'a, K> {
     // The fragment, unless it leaves the strip or is empty; any numbers will do.
     fn of(keeper: &'a K, fragment: Fragment) -> Result<Self, Refusal>
         ensures part { IfOk result (λ part. (part.keeper.now ≡ keeper.now) × (part.fragment ≡ fragment)) }
-        ensures refused { IfErr result (λ refusal. (supplied : ℕ) → periods_check (K.codes keeper.now) fragment supplied ≡ Some (refusal_number refusal)) }
+        ensures refused { IfErr result (λ refusal. (supplied : ℕ) → periods_check (K.codes keeper.now) fragment supplied ≡ Some refusal) }
     {
         check_lies(keeper, fragment)?;
         if fragment.length == 0 {
