@@ -1,11 +1,12 @@
 -- What questions come to, and what is written of it. Assumes nothing.
-use Rattle.std.specs.Prelude.{ℕ, Bool, true, false, cond, List, [], ◌∷◌, ◌++◌, reverse, Some, None, codes as ascii, decimal, Option, ◌==◌}
+use Rattle.std.specs.Prelude.{ℕ, Bool, true, false, cond, List, [], ◌∷◌, ◌++◌, reverse, Some, None, codes as ascii, Option, ◌==◌}
 use Rattle.periodicity.specs.declared.Fragment.{Fragment}
 use Rattle.periodicity.specs.declared.Progression.{Progression}
 use Rattle.periodicity.specs.Fragments.{cut}
 use Rattle.periodicity.specs.Periods.{written_records}
 use Rattle.periodicity.specs.Progressions.{triple_text}
 use Rattle.questions.specs.Outcomes.{Outcome, answered, refused, outcome, checked, places_outcome, overlaps_outcome, periods_check}
+use Rattle.questions.specs.Found.{found_text, refused_text}
 use Rattle.ask.specs.declared.answer.Answer.{Answer}
 use Rattle.ask.specs.declared.answer.Answer.TheVariants as answer
 use Rattle.ask.specs.declared.question.Layers.{Layers}
@@ -52,22 +53,7 @@ triples_text before [] = []
 triples_text before (r ∷ rs) =
     cond (r.count == 0) (triples_text before rs) (before ++ (triple_text r ++ triples_text (ascii " / ") rs))
 
--- how a refusal is shown, and what was found: three numbers, or `none`
-abbrev pub refused_shown : ℕ → List ℕ
-refused_shown number = ascii "refused " ++ decimal number
-
-abbrev pub found_shown : Outcome (Option Progression) → List ℕ
-found_shown (answered None) = ascii "none"
-found_shown (answered (Some p)) = triple_text p
-found_shown (refused number) = refused_shown number
-
--- the same after a space
-abbrev pub refused_text : ℕ → List ℕ
-refused_text number = ascii " " ++ refused_shown number
-
-abbrev pub found_text : Outcome (Option Progression) → List ℕ
-found_text found = ascii " " ++ found_shown found
-
+-- the records that were found, or how the refusal is shown
 abbrev pub records_text : Outcome (List Progression) → List ℕ
 records_text (answered records) = triples_text (ascii " ") records
 records_text (refused number) = refused_text number

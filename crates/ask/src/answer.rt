@@ -4,12 +4,12 @@ ghost use Rattle.std.specs.Prelude.{◌≡◌, ℕ, List, ◌++◌, Some, codes 
 ghost use Rattle.std.specs.Fmt.{WritesOnOk};
 ghost use Rattle.questions.specs.Outcomes.{outcome};
 ghost use Rattle.ask.specs.Answers.{Reply, records_outcome, reply_to, reply_of, seen_through, reversed_if};
-ghost use Rattle.ask.specs.Answers.{triples_text, found_shown, reply_text};
+ghost use Rattle.ask.specs.Answers.{triples_text, reply_text};
 
 use crate::question::{Layers, Question};
 use keepers::{Keeper, Reversed, Window};
 use periodicity::{Fragment, Progression};
-use questions::{RECORDS, Refusal, overlaps, periods, places};
+use questions::{Found, RECORDS, Refusal, overlaps, periods, places};
 use std::fmt;
 
 // What was found, or why the question is refused.
@@ -104,22 +104,6 @@ pub fn ask_through<K: Keeper>(keeper: &K, layers: Layers, question: Question) ->
         asking: question,
     }
     .ask(keeper)
-}
-
-// What was found, as an answer shows it: three numbers, or that there is nothing, or why the question is refused.
-#[derive(Clone, Copy)]
-pub struct Found(pub Result<Option<Progression>, Refusal>);
-
-impl fmt::Display for Found {
-    ghost output = { λ found. Some (found_shown (outcome found.0)) };
-
-    fn fmt<W: fmt::Write>(&self, f: &mut fmt::Formatter<W>) -> fmt::Result {
-        match self.0 {
-            Ok(Some(p)) => write!(f, "{p}"),
-            Ok(None) => write!(f, "none"),
-            Err(refusal) => write!(f, "refused {}", refusal.number()),
-        }
-    }
 }
 
 // The records in use, parted by slashes. By the rules a record that is not in use is three zeros. The slash

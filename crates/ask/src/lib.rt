@@ -9,7 +9,7 @@ mod question;
 mod session;
 mod words;
 
-pub use answer::{Answer, Asking, Found, Through, ask, ask_through};
+pub use answer::{Answer, Asking, Through, ask, ask_through};
 pub use line::{Line, parse};
 pub use question::{Layers, Question};
 pub use session::transcript;

@@ -1,11 +1,11 @@
 -- What is written of a job. Assumes nothing.
 use Rattle.std.specs.Prelude.{◌≡◌, ℕ, true, List, [], ◌∷◌, ◌++◌, codes as ascii, decimal}
 use Rattle.std.specs.List.{flat_map}
-use Rattle.ask.specs.Answers.{refused_shown, found_text}
 use Rattle.cells.specs.Glyphs.{same_glyph, glyph_code, glyph_given}
 use Rattle.book.specs.Laws.{OneNumber}
 use Rattle.book.specs.Runs.{answers_of, strips_of}
 use Rattle.book.specs.Calls.{Answer, numbered, no_rows, refused, refused_at}
+use Rattle.questions.specs.Found.{refused_shown, found_text}
 use Rattle.questions.specs.Outcomes.{outcome}
 use Rattle.shelf.specs.Refusals.{told}
 use Rattle.job.specs.declared.line.Line.{Line}

@@ -4,8 +4,8 @@ ghost use Rattle.std.specs.Prelude.{◌≡◌, IfOk, Some, string_bytes};
 ghost use Rattle.shelf.specs.Refusals.{told};
 ghost use Rattle.job.specs.Lines.{told_in, answer_shown, line_text, line_bytes};
 
-use ask::Found;
 use periodicity::Progression;
+use questions::Found;
 use shelf::Answer;
 use std::alloc::{AllocError, Global};
 use std::fmt;

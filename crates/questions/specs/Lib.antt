@@ -1,3 +1,4 @@
--- What a question comes to, and what its answer promises.
+-- What a question comes to, what its answer promises, and how it is shown.
 pub mod Outcomes
 pub mod Answers
+pub mod Found

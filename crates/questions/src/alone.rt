@@ -1,4 +1,4 @@
-// A progression of one number.
+//! A progression of one number.
 
 ghost use Rattle.std.specs.Prelude.{◌≡◌};
 ghost use Rattle.periodicity.specs.Progressions.{triple};

@@ -1,4 +1,4 @@
-// The overlaps of two fragments.
+//! The overlaps of two fragments.
 
 ghost use Rattle.std.specs.Prelude.{◌≡◌, ◌+◌, ◌-◌, ◌*◌, ◌/◌, ◌<◌, ◌≤◌, min, true, length};
 ghost use Rattle.periodicity.specs.Progressions.{triple};
@@ -51,8 +51,7 @@ impl<K: Keeper> Parts<'_, K> {
         self.common_ahead(self.first.start, suffix) >= size
     }
 
-    // The lengths to look at: from `least` on and below twice `least`, as far as both fragments have room. A
-    // function of its own, so that a wrong end is refused here.
+    // The lengths to look at: from `least` on and below twice `least`, as far as both fragments have room.
     fn lengths(&self, least: usize) -> Range<usize>
         ensures { result ≡ record { start = least; end = min (least + least) (min self.now.first.length self.now.second.length + 1) } }
     {
@@ -88,8 +87,10 @@ impl<K: Keeper> Parts<'_, K> {
     }
 }
 
-// All lengths from `least` to `2 * least - 1` of suffixes of the second fragment that are prefixes of the
-// first.
+/// All lengths from `least` to `2 * least - 1` of suffixes of the second fragment that are prefixes of the
+/// first.
+///
+/// Refused where a fragment leaves the strip, then where `least` is 0.
 pub fn overlaps<K: Keeper>(
     keeper: &K,
     first: Fragment,

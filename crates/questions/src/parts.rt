@@ -1,4 +1,4 @@
-// Two fragments of a keeper's strip, checked once to lie in it.
+//! Two fragments of a keeper's strip, checked once to lie in it.
 
 ghost use Rattle.std.specs.Prelude.{◌≡◌, ◌+◌, ◌≤◌, ◌&&◌, false, length, drop, IfOk, IfErr};
 ghost use Rattle.periodicity.specs.Agreement.{Greatest};

@@ -1,4 +1,4 @@
-// The periods of a fragment.
+//! The periods of a fragment.
 
 ghost use Rattle.std.specs.Prelude.{◌≡◌, ℕ, List, Some, IfOk, IfErr, ◌+◌, ◌-◌, ◌*◌, ◌<◌, ◌≤◌, ◌++◌, length, take, drop, replicate};
 ghost use Rattle.std.specs.Iterator.Adapters.{rev_source, repeat_n_item, repeat_n_count};
@@ -18,8 +18,8 @@ use periodicity::{Fragment, Progression};
 use std::iter::{RepeatN, Rev, once, repeat_n};
 use std::ops::Range;
 
-// How many records the periods of a fragment take at most: borders are below 2^16, which makes 16 ranges,
-// and border 0 makes the last record.
+/// How many records the periods of a fragment take at most: borders are below 2^16, which makes 16 ranges,
+/// and border 0 makes the last record.
 pub const RECORDS: usize = 17;
 
 // The record of the periods of a fragment of `length` codes that belong to a progression of borders: the
@@ -37,8 +37,7 @@ fn borders_record(length: usize, borders: Progression) -> Progression
     }
 }
 
-// The ranges of borders below 2^16, greatest first. A function of its own, as `unused` and `length_record`
-// are, so that a wrong one is refused at its contract.
+// The ranges of borders below 2^16, greatest first.
 fn border_ranges() -> Rev<Range<u32>>
     ensures { rev_source result ≡ record { start = 0; end = 16 } }
 {
@@ -137,9 +136,14 @@ impl<'a, K: Keeper> Part<'a, K> {
     }
 }
 
-// All p from 1 to the fragment's length with every code equal to the one p further on, if any. The first
-// 17 records are written: for each range of borders from the greatest down, first period, step and count,
-// then the length itself, then three zeros for each record that is not in use.
+/// All p from 1 to the fragment's length with every code equal to the one p further on, if any. The first
+/// 17 records are written: for each range of borders from the greatest down, first period, step and count,
+/// then the length itself, then three zeros for each record that is not in use. Records from the 18th on stay as
+/// they were. The codes a b a b a b a have the periods 2, 4, 6 and 7, whose borders 5, 3 and 1 lie in three ranges, so
+/// that four records are in use.
+///
+/// Refused where the fragment leaves the strip, then where it is empty, then where fewer than 17 records are
+/// supplied; all records are then as they were.
 pub fn periods<K: Keeper>(
     keeper: &K,
     fragment: Fragment,

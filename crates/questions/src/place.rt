@@ -1,4 +1,4 @@
-// The places of a pattern in a field.
+//! The places of a pattern in a field.
 
 ghost use Rattle.std.specs.Prelude.{◌≡◌, ◌+◌, ◌-◌, ◌*◌, ◌/◌, ◌<◌, ◌≤◌, min, true, length, None};
 ghost use Rattle.periodicity.specs.Places.{is_place};
@@ -83,7 +83,11 @@ impl<K: Keeper> Parts<'_, K> {
     }
 }
 
-// All starts, counted in the strip, of parts of the field that have the pattern's length and codes.
+/// All starts, counted in the strip, of parts of the field that have the pattern's length and codes. In a b a b a b a
+/// the pattern a b a stands in the first five codes at 0 and 2: first 0, step 2, count 2.
+///
+/// Refused where a fragment leaves the strip, then where the field is at least twice as long as the pattern, since
+/// places further apart need not stand in a progression. An empty pattern is refused so.
 pub fn places<K: Keeper>(
     keeper: &K,
     pattern: Fragment,

@@ -1,26 +1,27 @@
-// Why a question is refused. Refusal 7 stands here and in `shelf`, neither of which builds on the other.
+//! Why a question is refused. Refusal 7 stands here and in `shelf`, neither of which builds on the other.
 
 ghost use Rattle.std.specs.Prelude.{◌≡◌, Some};
 ghost use Rattle.questions.specs.Outcomes.{refusal_number, refusal_sentence};
 
 use std::fmt;
 
+/// What a question is refused for. Where several apply, the first in this order is told.
 #[derive(Clone, Copy, PartialEq, Eq, Debug)]
 pub enum Refusal {
-    // A fragment leaves the strip.
+    /// A fragment leaves the strip.
     FragmentLeavesStrip,
-    // The field is at least twice as long as the pattern.
+    /// The field is at least twice as long as the pattern.
     FieldTooLong,
-    // Overlaps of at least 0 codes were asked for.
+    /// Overlaps of at least 0 codes were asked for.
     ZeroOverlap,
-    // The periods of an empty fragment were asked for.
+    /// The periods of an empty fragment were asked for.
     EmptyFragment,
-    // Fewer than 17 records were supplied for the periods.
+    /// Fewer than 17 records were supplied for the periods.
     TooFewRecords,
 }
 
 impl Refusal {
-    // The number by which users know the refusal.
+    /// The number by which users know the refusal, from 7 to 11.
     pub fn number(self) -> u8
         ensures { result ≡ refusal_number self }
     {
