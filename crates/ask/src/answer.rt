@@ -1,10 +1,11 @@
-// Questions asked of a keeper, and their answers as text.
+//! Questions asked of a keeper, and their answers as text.
 
 ghost use Rattle.std.specs.Prelude.{◌≡◌, ℕ, List, ◌++◌, Some, codes as ascii};
 ghost use Rattle.std.specs.Fmt.{WritesOnOk};
 ghost use Rattle.questions.specs.Outcomes.{outcome};
 ghost use Rattle.ask.specs.Answers.{Reply, records_outcome, reply_to, reply_of, seen_through, reversed_if};
 ghost use Rattle.ask.specs.Answers.{triples_text, reply_text};
+ghost use Rattle.ask.specs.Laws.{AnswerLaw, RecordsLaw};
 
 use crate::question::{Layers, Question};
 use keepers::{Keeper, Reversed, Window};
@@ -12,7 +13,8 @@ use periodicity::{Fragment, Progression};
 use questions::{Found, RECORDS, Refusal, overlaps, periods, places};
 use std::fmt;
 
-// What was found, or why the question is refused.
+/// What was found, or why the question is refused. It prints as the question's name and what was found, as
+/// `places 0 2 3`, `overlaps none`, `periods 2 0 1 / 4 0 1` or `periods refused 10`.
 #[derive(Clone, Copy)]
 pub enum Answer {
     Places(Result<Option<Progression>, Refusal>),
@@ -20,18 +22,26 @@ pub enum Answer {
     Periods(Result<[Progression; RECORDS], Refusal>),
 }
 
-// Something that can be asked of a keeper, whatever keeper it is.
+/// Something that can be asked of a keeper, whatever keeper it is.
 pub trait Asking {
+    ghost use Rattle.ask.specs.declared.answer.Answer.{Answer};
+
     // What it comes to, by the codes that the keeper stands for.
     ghost reply: { Self → List ℕ → Reply };
 
+    // What its answer owes to them.
+    ghost owed: { Self → List ℕ → Answer → Type 0 };
+
+    /// Asks about the codes that a keeper stands for.
     fn ask<K: Keeper>(&self, keeper: &K) -> Answer
-        ensures { reply_of result ≡ reply self.now (K.codes keeper.now) };
+        ensures value { reply_of result ≡ reply self.now (K.codes keeper.now) }
+        ensures law { owed self.now (K.codes keeper.now) result };
 }
 
 // The records of a fragment's periods.
 fn periods_of<K: Keeper>(keeper: &K, fragment: Fragment) -> Result<[Progression; RECORDS], Refusal>
-    ensures { outcome result ≡ records_outcome (K.codes keeper.now) fragment }
+    ensures value { outcome result ≡ records_outcome (K.codes keeper.now) fragment }
+    ensures law { RecordsLaw (K.codes keeper.now) fragment result }
 {
     let mut records = [Progression::default(); RECORDS];
     periods(keeper, fragment, &mut records)?;
@@ -40,6 +50,8 @@ fn periods_of<K: Keeper>(keeper: &K, fragment: Fragment) -> Result<[Progression;
 
 impl Asking for Question {
     ghost reply = { reply_to };
+
+    ghost owed = { AnswerLaw };
 
     fn ask<K: Keeper>(&self, keeper: &K) -> Answer {
         match *self {
@@ -54,7 +66,9 @@ impl Asking for Question {
     }
 }
 
-// Something asked of what is seen through layers. It can be seen through further layers, which stand below.
+/// Something asked of what is seen through layers. It can be asked through further layers, which stand below: of
+/// codes, `Through { layers: window, asking: Through { layers: reversed, asking: question } }` asks about a window of
+/// them, read backwards.
 #[derive(Clone, Copy)]
 pub struct Through<A> {
     pub layers: Layers,
@@ -64,7 +78,8 @@ pub struct Through<A> {
 impl<A: Asking> Through<A> {
     // Asks of what is seen through the window.
     fn ask_windowed<K: Keeper>(&self, keeper: &K) -> Answer
-        ensures { reply_of result ≡ A.reply self.now.asking (reversed_if self.now.layers.reversed (K.codes keeper.now)) }
+        ensures value { reply_of result ≡ A.reply self.now.asking (reversed_if self.now.layers.reversed (K.codes keeper.now)) }
+        ensures law { A.owed self.now.asking (reversed_if self.now.layers.reversed (K.codes keeper.now)) result }
     {
         if self.layers.reversed {
             self.asking.ask(&Reversed { below: keeper })
@@ -77,6 +92,8 @@ impl<A: Asking> Through<A> {
 impl<A: Asking> Asking for Through<A> {
     ghost reply = { λ through xs. A.reply through.asking (seen_through through.layers xs) };
 
+    ghost owed = { λ through xs answer. A.owed through.asking (seen_through through.layers xs) answer };
+
     fn ask<K: Keeper>(&self, keeper: &K) -> Answer {
         match self.layers.window {
             Some(part) => self.ask_windowed(&Window {
@@ -88,16 +105,10 @@ impl<A: Asking> Asking for Through<A> {
     }
 }
 
-// Asks about the codes that a keeper stands for.
-pub fn ask<K: Keeper>(keeper: &K, question: Question) -> Answer
-    ensures { reply_of result ≡ reply_to question (K.codes keeper.now) }
-{
-    question.ask(keeper)
-}
-
-// Asks about the codes that are seen through the layers.
+/// Asks about the codes that are seen through the layers, of which there need be none.
 pub fn ask_through<K: Keeper>(keeper: &K, layers: Layers, question: Question) -> Answer
-    ensures { reply_of result ≡ reply_to question (seen_through layers (K.codes keeper.now)) }
+    ensures value { reply_of result ≡ reply_to question (seen_through layers (K.codes keeper.now)) }
+    ensures law { AnswerLaw question (seen_through layers (K.codes keeper.now)) result }
 {
     Through {
         layers,
@@ -107,8 +118,7 @@ pub fn ask_through<K: Keeper>(keeper: &K, layers: Layers, question: Question) ->
 }
 
 // The records in use, parted by slashes. By the rules a record that is not in use is three zeros. The slash
-// stands between records, so the first has another mark before it. No Display, since it is a part of one answer's
-// text alone.
+// stands between records, so the first has another mark before it.
 #[tactic(auto, using(crate::proofs::Records::recording))]
 fn write_records<W: fmt::Write>(
     f: &mut fmt::Formatter<W>,

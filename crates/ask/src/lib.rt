@@ -1,5 +1,5 @@
-// Questions about a strip, asked in lines of text. A line sets the strip, or asks about it as it is seen
-// through a window, reversed or as it stands; each question is answered by a line.
+//! Questions about a strip, asked in lines of text. A line sets the strip, or asks about it as it is seen
+//! through a window, reversed or as it stands; each question is answered by a line.
 #![tactic(auto)]
 
 mod answer;
@@ -9,7 +9,7 @@ mod question;
 mod session;
 mod words;
 
-pub use answer::{Answer, Asking, Through, ask, ask_through};
+pub use answer::{Answer, Asking, Through, ask_through};
 pub use line::{Line, parse};
 pub use question::{Layers, Question};
 pub use session::transcript;

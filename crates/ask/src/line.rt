@@ -1,4 +1,4 @@
-// What a line of text says.
+//! What a line of text says.
 
 ghost use Rattle.std.specs.Prelude.{◌≡◌, IfOk, Some, vec_items};
 ghost use Rattle.std.specs.Option.{option_map};
@@ -12,14 +12,14 @@ use crate::words::{Words, spells};
 use periodicity::Fragment;
 use std::alloc::{AllocError, Global};
 
-// What a line says.
+/// What a line says.
 #[derive(Drop)]
 pub enum Line {
-    // It has no words.
+    /// It has no words.
     Nothing,
-    // The strip is now this one.
+    /// The strip is now this one.
     Strip { codes: Vec<u32> },
-    // A question, and the layers through which it sees the strip.
+    /// A question, and the layers through which it sees the strip.
     Question { layers: Layers, question: Question },
     NotUnderstood,
 }
@@ -105,8 +105,7 @@ impl Words<'_> {
         self.ended(Question::Periods { fragment })
     }
 
-    // A question by its name and its numbers. A `match` on byte strings
-    // leaves a goal open at each of their bytes.
+    // A question by its name and its numbers.
     fn question(mut self) -> Option<Question>
         ensures { result ≡ question_words (words_left self.entry) }
     {
@@ -130,7 +129,7 @@ impl Words<'_> {
         Some((layers, self.question()?))
     }
 
-    // All words as codes; absent when one is none. A `collect` into an `Option` says nothing of its result.
+    // All words as codes; absent when one is none.
     fn codes(self, heap: Global) -> Result<Option<Vec<u32>>, AllocError>
         ensures { IfOk result (λ codes. option_map vec_items codes ≡ codes_words (words_left self.entry)) }
     {
@@ -145,7 +144,9 @@ impl Words<'_> {
     }
 }
 
-// What a line says, without its newline.
+/// What a line says, without its newline. `strip 7 8 7` sets the strip; `window 1 2 reversed periods 0 2` asks about
+/// what is seen of it through a window and then backwards. What names no question, or has a number too few or too
+/// many, is `NotUnderstood`; the only error is that memory runs out.
 pub fn parse(heap: Global, line: &[u8]) -> Result<Line, AllocError>
     ensures { IfOk result (λ parsed. said_by parsed ≡ saying_of line.now) }
 {

@@ -1,4 +1,4 @@
-// Numbers as words write them.
+//! Numbers as words write them.
 
 ghost use Rattle.std.specs.Prelude.{◌≡◌, ◌^◌};
 ghost use Rattle.std.specs.Str.{all_ascii_digits};

@@ -1,28 +1,28 @@
-// What is asked, and through which layers.
+//! What is asked, and through which layers.
 
 use periodicity::Fragment;
 
-// A question about the strip that it sees.
+/// A question about the strip that it sees.
 #[derive(Clone, Copy)]
 pub enum Question {
-    // The places of a pattern in a field.
+    /// The places of a pattern in a field.
     Places {
         pattern: Fragment,
         field: Fragment,
     },
-    // The overlaps of two fragments, of lengths from `least` on and below twice `least`.
+    /// The overlaps of two fragments, of lengths from `least` on and below twice `least`.
     Overlaps {
         first: Fragment,
         second: Fragment,
         least: usize,
     },
-    // The periods of a fragment.
+    /// The periods of a fragment.
     Periods {
         fragment: Fragment,
     },
 }
 
-// How a question sees the strip: through a window, if there is one, and then reversed, if so.
+/// How a question sees the strip: through a window, if there is one, and then reversed, if so.
 #[derive(Clone, Copy)]
 pub struct Layers {
     pub window: Option<Fragment>,

@@ -1,6 +1,7 @@
-// A text of lines, and all that is printed in answer to it.
+//! A text of lines, and all that is printed in answer to it.
 
 ghost use Rattle.std.specs.Prelude.{◌≡◌, IfOk, string_bytes};
+ghost use Rattle.ask.specs.Laws.{TranscriptLaw};
 ghost use Rattle.ask.specs.Lines.{said_by};
 ghost use Rattle.ask.specs.Transcript.{printed_for, transcript_of};
 
@@ -24,10 +25,12 @@ fn printed(heap: Global, number: usize, strip: &[u32], line: &Line) -> Result<St
     }
 }
 
-// All that is printed in answer to a text: a line for each question, and one for each line that is not
-// understood. Lines are numbered from 1, and before the first that sets a strip the strip is empty.
+/// All that is printed in answer to a text: a line for each question, and one for each line that is not
+/// understood. Lines are numbered from 1, and before the first that sets a strip the strip is empty.
+/// Of a strip longer than a keeper's the first codes are seen. The only error is that memory runs out.
 pub fn transcript(heap: Global, text: &[u8]) -> Result<String, AllocError>
-    ensures { IfOk result (λ all. string_bytes all ≡ transcript_of text.now) }
+    ensures value { IfOk result (λ all. string_bytes all ≡ transcript_of text.now) }
+    ensures law { IfOk result (λ all. TranscriptLaw text.now (string_bytes all)) }
 {
     let mut all = String::new(heap);
     let mut strip = Vec::new(heap);

@@ -1,4 +1,4 @@
-// The words of a line and the lines of a text, one by one.
+//! The words of a line and the lines of a text, one by one.
 
 ghost use Rattle.std.specs.Prelude.{◌≡◌, length};
 ghost use Rattle.std.specs.Iterator.{YieldsFirstRef, at_most};
@@ -63,8 +63,7 @@ impl<'a> Iterator for Words<'a> {
     }
 }
 
-// The lines that are left of a text. Beside `Words`, since one type for both would need a trait for the cut with
-// two impls, and is no shorter.
+// The lines that are left of a text.
 #[derive(Clone, Copy)]
 pub(crate) struct Lines<'a> {
     rest: &'a [u8],
