@@ -1,177 +1,164 @@
 -- Commands are done one after the other, from place to place. Assumes nothing.
-use Rattle.std.proofs.Common.{◌≡◌, ℕ, zero, suc, ◌+◌, ◌-◌, ◌<◌, ◌≤◌, Bool, true, false, cond, eqb, leb, List, [], ◌∷◌, ◌++◌, length, take, drop, Some, None, Option, sym, refl, ap, ◌∙◌, subst, append_assoc, add-zero, arith}
+use Rattle.std.proofs.Common.{◌≡◌, ℕ, zero, suc, ◌-◌, ◌<◌, ◌≤◌, Bool, true, false, cond, eqb, List, [], ◌∷◌, ◌++◌, length, Some, None, Option, sym, refl, ap, ◌∙◌, subst, append_assoc, arith}
 use Rattle.std.proofs.lemmas.Grind.{flat_map-append}
-use Rattle.std.proofs.lemmas.List.{append-nil, length-drop, take_rest}
-use Rattle.std.proofs.lemmas.Bool.{leb-true, le-leb, lt-leb}
+use Rattle.std.proofs.lemmas.List.{append-nil}
+use Rattle.std.proofs.lemmas.Bool.{le-leb, lt-leb}
 use Rattle.std.specs.List.{flat_map}
 use Rattle.cells.specs.declared.glyph.Glyph.{Glyph}
 use Rattle.job.specs.declared.command.Command.{Command}
-use Rattle.job.specs.declared.command.Command.TheVariants.{Glyph as put, Take, Join, Cut, Places}
-use Rattle.job.specs.Commands.{size_of, whole, said_by, command_of, operand, fragment, Entry, entry_before, entries_from, entries}
-use Rattle.job.specs.Desks.{told_lines, doable, Does}
+use Rattle.job.specs.Commands.{Front, ◌>>=◌, operand_at, fragment_at, glyph_at, take_at, join_at, cut_at, places_at, said_by, command_at, Entry, entry_before, entries_within, entries}
+use Rattle.job.specs.Desks.{told_at_end, told_lines, doable, Does}
 use Rattle.job.specs.declared.line.Line.{Line}
 use Rattle.job.specs.Lines.{told_in, line_bytes, printed_by}
 use Rattle.job.specs.Runs.{most_bytes, Standing, nothing_yet, Told, stopped, too_long, fits, told_by, after, told_from, told_of}
 
--- a command has at least its letter
-pub size_some : (command : Command) → 0 < size_of command
-size_some (put number) = omega arith
-size_some Take = omega arith
-size_some (Join left right) = omega arith
-size_some (Cut number part) = omega arith
-size_some (Places number pattern field) = omega arith
+-- what stands at the front leaves at most so many bytes
+abbrev Leaves : {A : Type 0} → ℕ → Front A → Type 0
+Leaves n None = Unit {0}
+Leaves n (Some read) = length read.1 ≤ n
 
--- a command that was read stands in the bytes whole
-either : {A : Type 0} (P : A → Type 0) (b : Bool) (x y : A) → P x → P y → P (cond b x y)
-either P true x y at_x at_y = at_x
-either P false x y at_x at_y = at_y
+then_leaves : {A B : Type 0} (n : ℕ) (front : Front A) (next : A × List ℕ → Front B) → Leaves n front → ((a : A) (rest : List ℕ) → length rest ≤ n → Leaves n (next (a, rest))) → Leaves n (front >>= next)
+then_leaves n None next first later = tt
+then_leaves n (Some read) next first later = later read.0 read.1 first
 
-abbrev Within : List ℕ → Option Command → Type 0
-Within bytes None = Unit {0}
-Within bytes (Some command) = size_of command ≤ length bytes
+operand_leaves : (n : ℕ) (bytes : List ℕ) → length bytes ≤ n → Leaves n (operand_at bytes)
+operand_leaves n [] within = tt
+operand_leaves n (high ∷ []) within = tt
+operand_leaves n (high ∷ low ∷ rest) within = omega (arith, within)
 
-whole_within : (bytes : List ℕ) (command : Command) → Within bytes (whole bytes command)
-whole_within bytes command = by (leb (size_of command) (length bytes)) refl
-  where
-    by : (b : Bool) → leb (size_of command) (length bytes) ≡ b → Within bytes (cond b (Some command) None)
-    by true is = leb-true (size_of command) (length bytes) is
-    by false is = tt
+fragment_leaves : (n : ℕ) (bytes : List ℕ) → length bytes ≤ n → Leaves n (fragment_at bytes)
+fragment_leaves n bytes within =
+    then_leaves n (operand_at bytes) _ (operand_leaves n bytes within) (λ start left short.
+    then_leaves n (operand_at left) _ (operand_leaves n left short) (λ size rest shorter. shorter))
 
-said_within : (letter : ℕ) (bytes : List ℕ) → Within bytes (said_by letter bytes)
-said_within letter bytes =
-    either (Within bytes) (eqb letter 67) _ _ (whole_within bytes (put (operand 1 bytes)))
-    (either (Within bytes) (eqb letter 84) _ _ (whole_within bytes Take)
-    (either (Within bytes) (eqb letter 74) _ _ (whole_within bytes (Join (operand 1 bytes) (operand 2 bytes)))
-    (either (Within bytes) (eqb letter 75) _ _ (whole_within bytes (Cut (operand 1 bytes) (fragment 2 bytes)))
-    (either (Within bytes) (eqb letter 70) _ _ (whole_within bytes (Places (operand 1 bytes) (fragment 2 bytes) (fragment 4 bytes))) tt))))
+either_leaves : {A : Type 0} (n : ℕ) (b : Bool) (x y : Front A) → Leaves n x → Leaves n y → Leaves n (cond b x y)
+either_leaves n true x y at_x at_y = at_x
+either_leaves n false x y at_x at_y = at_y
 
-command_within : (bytes : List ℕ) → Within bytes (command_of bytes)
-unfolding command_of
-command_within [] = tt
-command_within (b ∷ bs) = said_within b (b ∷ bs)
+said_leaves : (letter : ℕ) (bytes : List ℕ) → Leaves (length bytes) (said_by letter bytes)
+said_leaves letter bytes =
+    let n = length bytes in
+    let number = operand_leaves n bytes (omega arith) in
+    either_leaves n (eqb letter 67) (glyph_at bytes) _ (then_leaves n (operand_at bytes) _ number (λ x rest short. short))
+    (either_leaves n (eqb letter 84) (take_at bytes) _ (omega arith)
+    (either_leaves n (eqb letter 74) (join_at bytes) _ (then_leaves n (operand_at bytes) _ number (λ x left short. then_leaves n (operand_at left) _ (operand_leaves n left short) (λ y rest shorter. shorter)))
+    (either_leaves n (eqb letter 75) (cut_at bytes) _ (then_leaves n (operand_at bytes) _ number (λ x left short. then_leaves n (fragment_at left) _ (fragment_leaves n left short) (λ y rest shorter. shorter)))
+    (either_leaves n (eqb letter 70) (places_at bytes) None
+    (then_leaves n (operand_at bytes) _ number (λ x left short. then_leaves n (fragment_at left) _ (fragment_leaves n left short) (λ y more shorter. then_leaves n (fragment_at more) _ (fragment_leaves n more shorter) (λ z rest shortest. shortest))))
+    tt))))
+
+-- a command that was read leaves fewer bytes
+command_leaves : (bytes : List ℕ) (command : Command) (rest : List ℕ) → command_at bytes ≡ Some (command, rest) → length rest < length bytes
+unfolding command_at
+command_leaves [] command rest is = cc
+command_leaves (letter ∷ bs) command rest is =
+    let short : length rest ≤ length bs = subst (Leaves (length bs)) is (said_leaves letter bs) in
+    omega (arith, short)
 
 -- a command that can be done was read
-doable_read : (tray : List Glyph) (o : Option Command) (command : Command) → doable tray o ≡ Some command → (o ≡ Some command) × (fits tray command ≡ true)
-doable_read tray None command is = cc
-doable_read tray (Some c) command is = by (fits tray c) refl is
+doable_read : (tray : List Glyph) (front : Front Command) (command : Command) (rest : List ℕ) → doable tray front ≡ Some (command, rest) → (front ≡ Some (command, rest)) × (fits tray command ≡ true)
+doable_read tray None command rest is = cc
+doable_read tray (Some read) command rest is = by (fits tray read.0) refl is
   where
-    by : (b : Bool) → fits tray c ≡ b → cond b (Some c) None ≡ Some command → (◌≡◌ {A = Option Command} (Some c) (Some command)) × (fits tray command ≡ true)
-    by true can same = let e : c ≡ command = cc in (ap Some e, subst (λ x. fits tray x ≡ true) e can)
+    by : (b : Bool) → fits tray read.0 ≡ b → cond b (Some read) None ≡ Some (command, rest) → (◌≡◌ {A = Front Command} (Some read) (Some (command, rest))) × (fits tray command ≡ true)
+    by true can same = let e : read ≡ (command, rest) = cc in (same, subst (λ x. fits tray x.0 ≡ true) e can)
     by false can same = cc
 
-pub size_within : (tray : List Glyph) (bytes : List ℕ) (command : Command) → Some command ≡ doable tray (command_of bytes) → size_of command ≤ length bytes
-size_within tray bytes command is = subst (Within bytes) (doable_read tray (command_of bytes) command (sym is)).0 (command_within bytes)
-
--- entries go on after the bytes that belong to a command that has been read
-entries_skip : (k place : ℕ) (bytes : List ℕ) → entries_from k place bytes ≡ entries_from 0 (place + k) (drop k bytes)
-entries_skip zero place bytes = ap (λ p. entries_from 0 p bytes) (sym (add-zero place))
-entries_skip (suc k) place [] = refl
-entries_skip (suc k) place (b ∷ bs) = entries_skip k (place + 1) bs ∙ ap (λ p. entries_from 0 p (drop k bs)) (omega arith)
+pub next_shorter : (tray : List Glyph) (bytes : List ℕ) (command : Command) (rest : List ℕ) → Some (command, rest) ≡ doable tray (command_at bytes) → length rest < length bytes
+next_shorter tray bytes command rest is = command_leaves bytes command rest (doable_read tray (command_at bytes) command rest (sym is)).0
 
 -- where no command can be read or done, the job stops
-stop_before : (s : Standing) (place : ℕ) (o : Option Command) (more : ℕ → List Entry) → doable s.tray o ≡ None → told_from s (entry_before place o more) ≡ stopped place ∷ []
+stop_before : (s : Standing) (place : ℕ) (front : Front Command) (more : List ℕ → List Entry) → doable s.tray front ≡ None → told_from s (entry_before place front more) ≡ stopped place ∷ []
 stop_before s place None more is = refl
-stop_before s place (Some c) more is = by (fits s.tray c) is
+stop_before s place (Some read) more is = by (fits s.tray read.0) is
   where
-    by : (b : Bool) → cond b (Some c) None ≡ None → cond b (told_by s c ++ told_from (after s c) (more (size_of c - 1))) (stopped place ∷ []) ≡ stopped place ∷ []
+    by : (b : Bool) → cond b (Some read) None ≡ None → cond b (told_by s read.0 ++ told_from (after s read.0) (more read.1)) (stopped place ∷ []) ≡ stopped place ∷ []
     by true same = cc
     by false same = refl
 
-told_stop : (s : Standing) (place : ℕ) (rest : List ℕ) → 0 < length rest → doable s.tray (command_of rest) ≡ None → told_from s (entries_from 0 place rest) ≡ stopped place ∷ []
-told_stop s place [] some is = absurd (omega arith)
-told_stop s place (b ∷ bs) some is = stop_before s place (command_of (b ∷ bs)) (λ passed. entries_from passed (place + 1) bs) is
-
 -- else the command is done, and what follows it
-done_before : (s : Standing) (place : ℕ) (o : Option Command) (more : ℕ → List Entry) (command : Command) → doable s.tray o ≡ Some command
-    → told_from s (entry_before place o more) ≡ told_by s command ++ told_from (after s command) (more (size_of command - 1))
-done_before s place o more command is =
-    let parts = doable_read s.tray o command is in
+done_before : (s : Standing) (place : ℕ) (front : Front Command) (more : List ℕ → List Entry) (command : Command) (rest : List ℕ) → doable s.tray front ≡ Some (command, rest)
+    → told_from s (entry_before place front more) ≡ told_by s command ++ told_from (after s command) (more rest)
+done_before s place front more command rest is =
+    let parts = doable_read s.tray front command rest is in
     ap (λ x. told_from s (entry_before place x more)) parts.0
-    ∙ ap (λ b. cond b (told_by s command ++ told_from (after s command) (more (size_of command - 1))) (stopped place ∷ [])) parts.1
+    ∙ ap (λ b. cond b (told_by s command ++ told_from (after s command) (more rest)) (stopped place ∷ [])) parts.1
 
-after_letter : (n : ℕ) (place : ℕ) (b : ℕ) (bs : List ℕ) → 0 < n → entries_from (n - 1) (place + 1) bs ≡ entries_from 0 (place + n) (drop n (b ∷ bs))
-after_letter zero place b bs some = absurd (omega arith)
-after_letter (suc n) place b bs some =
-    let e : suc n - 1 ≡ n = omega arith in
-    ap (λ k. entries_from k (place + 1) bs) e ∙ entries_skip n (place + 1) bs ∙ ap (λ p. entries_from 0 p (drop n bs)) (omega arith)
+-- what is still told of the bytes that are left of a job
+abbrev Later : ℕ → Standing → List ℕ → List ℕ → List Told
+Later limit s job rest = told_from s (entries_within limit (length job) rest)
 
-told_more : (s : Standing) (place : ℕ) (rest : List ℕ) (command : Command) → doable s.tray (command_of rest) ≡ Some command
-    → told_from s (entries_from 0 place rest) ≡ told_by s command ++ told_from (after s command) (entries_from 0 (place + size_of command) (drop (size_of command) rest))
-unfolding command_of
-told_more s place [] command is = cc
-told_more s place (b ∷ bs) command is =
-    done_before s place (command_of (b ∷ bs)) (λ passed. entries_from passed (place + 1) bs) command is
-    ∙ ap (λ es. told_by s command ++ told_from (after s command) es) (after_letter (size_of command) place b bs (size_some command))
-
--- what has been printed of a job, and what is still told of the bytes that are left, come to the whole
+-- what has been printed of a job, and what is still told, come to the whole
 pub record PrintsAll (text : List ℕ) (s : Standing) (job rest : List ℕ) : Type 0 where
   pub within : length rest ≤ length job
-  pub prints : text ++ flat_map line_bytes (told_from s (entries_from 0 (length job - length rest) rest)) ≡ flat_map line_bytes (told_from nothing_yet (entries job))
+  pub limit : ℕ
+  pub enough : length rest ≤ limit
+  pub prints : text ++ flat_map line_bytes (told_from s (entries_within limit (length job) rest)) ≡ flat_map line_bytes (told_from nothing_yet (entries job))
 
 pub prints_start : (text : List ℕ) (s : Standing) (job : List ℕ) → text ≡ [] → s ≡ nothing_yet → PrintsAll text s job job
 unfolding entries
 prints_start text s job none new = record {
   within = omega arith;
-  prints = λ i. none i ++ flat_map line_bytes (told_from (new i) (entries_from 0 (place i) job));
+  limit = length job;
+  enough = omega arith;
+  prints = λ i. none i ++ flat_map line_bytes (Later (length job) (new i) job job);
 }
-  where
-    place : length job - length job ≡ 0
-    place = omega arith
 
 -- the bytes of a line that was printed, and of none
-pub prints_some : (text text' : List ℕ) (printed : Option Line) (line : Line) → printed ≡ Some line → text' ≡ text ++ line_bytes (told_in line) → text' ≡ text ++ flat_map line_bytes (told_lines printed)
+prints_some : (text text' : List ℕ) (printed : Option Line) (line : Line) → printed ≡ Some line → text' ≡ text ++ line_bytes (told_in line) → text' ≡ text ++ flat_map line_bytes (told_lines printed)
 prints_some text text' printed line is text_is = text_is ∙ ap (λ l. text ++ l) (sym (append-nil (line_bytes (told_in line)))) ∙ ap (λ o. text ++ flat_map line_bytes (told_lines o)) (sym is)
 
-pub prints_none : (text : List ℕ) (printed : Option Line) → printed ≡ None → text ≡ text ++ flat_map line_bytes (told_lines printed)
+prints_none : (text : List ℕ) (printed : Option Line) → printed ≡ None → text ≡ text ++ flat_map line_bytes (told_lines printed)
 prints_none text printed is = sym (append-nil text) ∙ ap (λ o. text ++ flat_map line_bytes (told_lines o)) (sym is)
 
 -- one turn, with what the code has of it
-pub prints_more : (text text' : List ℕ) (s s' : Standing) (job rest : List ℕ) (size : ℕ) (command : Command) (tells : List Told) → PrintsAll text s job rest → Some command ≡ doable s.tray (command_of rest) → Does s command tells s'
-    → text' ≡ text ++ flat_map line_bytes tells → size ≡ size_of command → PrintsAll text' s' job (take (length rest - size) (drop size rest))
-prints_more text text' s s' job rest size command tells all is done text_is size_is =
-    subst (PrintsAll text' s' job) (ap (λ n. drop n rest) (sym size_is) ∙ sym (take_rest rest size)) record {
-      within = omega (arith, shorter, all.within);
-      prints =
-          (λ i. (text_is ∙ ap (λ ts. text ++ flat_map line_bytes ts) done.tells_it) i ++ flat_map line_bytes (told_from (done.leaves i) (entries_from 0 (moved i) left)))
-          ∙ append_assoc text (flat_map line_bytes (told_by s command)) (flat_map line_bytes later)
-          ∙ ap (λ l. text ++ l) (sym (flat_map-append line_bytes (told_by s command) later))
-          ∙ ap (λ ts. text ++ flat_map line_bytes ts) (sym (told_more s place rest command (sym is)))
-          ∙ all.prints;
-    }
+prints_more : (text text' : List ℕ) (s s' : Standing) (job bytes rest : List ℕ) (command : Command) (tells : List Told) → PrintsAll text s job bytes → Some (command, rest) ≡ doable s.tray (command_at bytes) → Does s command tells s'
+    → text' ≡ text ++ flat_map line_bytes tells → PrintsAll text' s' job rest
+prints_more text text' s s' job [] rest command tells all is done text_is = let fewer : length rest < 0 = next_shorter s.tray [] command rest is in absurd (omega (arith, fewer))
+prints_more text text' s s' job (b ∷ bs) rest command tells all is done text_is = by all.limit all.enough all.prints
   where
-    left : List ℕ
-    left = drop (size_of command) rest
+    by : (limit : ℕ) → length (b ∷ bs) ≤ limit → text ++ flat_map line_bytes (Later limit s job (b ∷ bs)) ≡ flat_map line_bytes (told_from nothing_yet (entries job)) → PrintsAll text' s' job rest
+    by zero enough prints = absurd (omega (arith, enough))
+    by (suc limit) enough prints =
+        let shorter = next_shorter s.tray (b ∷ bs) command rest is in
+        let later = Later limit (after s command) job rest in
+        record {
+          within = omega (arith, shorter, all.within);
+          limit = limit;
+          enough = omega (arith, enough, shorter);
+          prints =
+              (λ i. (text_is ∙ ap (λ ts. text ++ flat_map line_bytes ts) done.tells_it) i ++ flat_map line_bytes (Later limit (done.leaves i) job rest))
+              ∙ append_assoc text (flat_map line_bytes (told_by s command)) (flat_map line_bytes later)
+              ∙ ap (λ l. text ++ l) (sym (flat_map-append line_bytes (told_by s command) later))
+              ∙ ap (λ ts. text ++ flat_map line_bytes ts) (sym (done_before s (length job - length (b ∷ bs)) (command_at (b ∷ bs)) (entries_within limit (length job)) command rest (sym is)))
+              ∙ prints;
+        }
 
-    place : ℕ
-    place = length job - length rest
+-- one that prints a line, and one that prints none
+pub prints_line : (text text' : List ℕ) (s s' : Standing) (job bytes rest : List ℕ) (command : Command) (printed : Option Line) (line : Line) → PrintsAll text s job bytes → Some (command, rest) ≡ doable s.tray (command_at bytes)
+    → Does s command (told_lines printed) s' → printed ≡ Some line → text' ≡ text ++ line_bytes (told_in line) → PrintsAll text' s' job rest
+prints_line text text' s s' job bytes rest command printed line all is done some text_is =
+    prints_more text text' s s' job bytes rest command (told_lines printed) all is done (prints_some text text' printed line some text_is)
 
-    later : List Told
-    later = told_from (after s command) (entries_from 0 (place + size_of command) left)
+pub prints_nothing : (text : List ℕ) (s s' : Standing) (job bytes rest : List ℕ) (command : Command) (printed : Option Line) → PrintsAll text s job bytes → Some (command, rest) ≡ doable s.tray (command_at bytes)
+    → Does s command (told_lines printed) s' → printed ≡ None → PrintsAll text s' job rest
+prints_nothing text s s' job bytes rest command printed all is done none =
+    prints_more text text s s' job bytes rest command (told_lines printed) all is done (prints_none text printed none)
 
-    whole : size_of command ≤ length rest
-    whole = size_within s.tray rest command is
-
-    shorter : length left ≡ length rest - size_of command
-    shorter = length-drop (size_of command) rest
-
-    moved : length job - length left ≡ place + size_of command
-    moved = omega (arith, shorter, whole, all.within)
-
--- at the end of the bytes all has been printed
-pub prints_end : (text : List ℕ) (s : Standing) (job rest : List ℕ) → PrintsAll text s job rest → length rest ≤ 0 → text ≡ flat_map line_bytes (told_from nothing_yet (entries job))
-prints_end text s job [] all none = sym (append-nil text) ∙ all.prints
-prints_end text s job (b ∷ bs) all none = absurd (omega arith)
-
--- where no command can be read or done, it has with the line that says so
-pub prints_stop : (text : List ℕ) (s : Standing) (job rest : List ℕ) → PrintsAll text s job rest → None ≡ doable s.tray (command_of rest) → 0 < length rest
-    → text ++ line_bytes (stopped (length job - length rest)) ≡ flat_map line_bytes (told_from nothing_yet (entries job))
-prints_stop text s job rest all is some =
-    ap (λ l. text ++ l) (sym (append-nil (line_bytes (stopped (length job - length rest)))))
-    ∙ ap (λ ts. text ++ flat_map line_bytes ts) (sym (told_stop s (length job - length rest) rest some (sym is)))
-    ∙ all.prints
+-- at the end all has been printed, with the line that says where the job stopped
+pub prints_end : (text text' : List ℕ) (s : Standing) (job rest : List ℕ) → PrintsAll text s job rest → None ≡ doable s.tray (command_at rest) → text' ≡ text ++ flat_map line_bytes (told_at_end job rest) → text' ≡ flat_map line_bytes (told_from nothing_yet (entries job))
+prints_end text text' s job rest all is text_is = text_is ∙ by rest all.limit all.enough all.prints is
+  where
+    by : (rest : List ℕ) (limit : ℕ) → length rest ≤ limit → text ++ flat_map line_bytes (Later limit s job rest) ≡ flat_map line_bytes (told_from nothing_yet (entries job)) → None ≡ doable s.tray (command_at rest)
+        → text ++ flat_map line_bytes (told_at_end job rest) ≡ flat_map line_bytes (told_from nothing_yet (entries job))
+    by [] zero enough prints is = prints
+    by [] (suc limit) enough prints is = prints
+    by (b ∷ bs) zero enough prints is = absurd (omega (arith, enough))
+    by (b ∷ bs) (suc limit) enough prints is =
+        ap (λ ts. text ++ flat_map line_bytes ts) (sym (stop_before s (length job - length (b ∷ bs)) (command_at (b ∷ bs)) (entries_within limit (length job)) (sym is))) ∙ prints
 
 -- what one turn needs, and the two ends
-pub ruleset turns = (size_some, size_within, prints_start, prints_end, prints_stop)
+pub ruleset turns = (next_shorter, prints_start, prints_nothing)
 
 -- a job that is too long prints that alone, and any other what its commands tell
 pub printed_too_long : (job : List ℕ) → most_bytes < length job → line_bytes too_long ≡ printed_by job

@@ -1,44 +1,72 @@
 -- The commands that the bytes of a job say. Assumes nothing.
-use Rattle.std.specs.Prelude.{ℕ, zero, suc, ◌+◌, ◌-◌, ◌*◌, cond, List, [], ◌∷◌, length, Some, None, Option, ◌==◌, nat_le, slice_index}
+use Rattle.std.specs.Prelude.{ℕ, zero, suc, ◌+◌, ◌-◌, ◌*◌, cond, List, [], ◌∷◌, length, Some, None, Option, option_and_then, ◌==◌}
 use Rattle.periodicity.specs.declared.Fragment.{Fragment}
 use Rattle.job.specs.declared.command.Command.{Command}
 use Rattle.job.specs.declared.command.Command.TheVariants.{Glyph, Take, Join, Cut, Places}
 
--- the first operand, the second and on, of a command at the front of some bytes: two bytes each after the
--- letter, high byte first
-abbrev pub operand : ℕ → List ℕ → ℕ
-operand k bytes = 256 * slice_index bytes (2 * k - 1) + slice_index bytes (2 * k)
+-- what stands at the front of some bytes, with the bytes after it; absent when they do not begin with one
+abbrev pub Front : Type 0 → Type 0
+Front A = Option (A × List ℕ)
 
--- a fragment whose start is operand k and whose length is the next
-abbrev pub fragment : ℕ → List ℕ → Fragment
-fragment k bytes = record { start = operand k bytes; length = operand (k + 1) bytes }
+-- something at the front, and then what its value and the bytes after it give
+infixl 10 ◌>>=◌
+abbrev pub ◌>>=◌ : {A B : Type 0} → Front A → (A × List ℕ → Front B) → Front B
+front >>= next = option_and_then next front
 
--- how many bytes a command has, its letter and two for each operand
-abbrev pub size_of : Command → ℕ
-size_of (Glyph number) = 3
-size_of Take = 1
-size_of (Join left right) = 5
-size_of (Cut number part) = 7
-size_of (Places number pattern field) = 11
+-- an operand: two bytes, high byte first
+abbrev pub operand_at : List ℕ → Front ℕ
+operand_at [] = None
+operand_at (high ∷ []) = None
+operand_at (high ∷ low ∷ rest) = Some (256 * high + low, rest)
 
--- a command, absent when it is cut short
-abbrev pub whole : List ℕ → Command → Option Command
-whole bytes command = cond (nat_le (size_of command) (length bytes)) (Some command) None
+-- a fragment: its start, then its length
+abbrev pub fragment_at : List ℕ → Front Fragment
+fragment_at bytes = do
+  start ← operand_at bytes
+  size ← operand_at start.1
+  Some (record { start = start.0; length = size.0 }, size.1)
 
--- the command that a letter and the operands after it say: C, T, J, K or F; absent when the letter is unknown
--- or the command is cut short
-abbrev pub said_by : ℕ → List ℕ → Option Command
+-- the operands of each command, after its letter
+abbrev pub glyph_at : List ℕ → Front Command
+glyph_at bytes = do
+  number ← operand_at bytes
+  Some (Glyph number.0, number.1)
+
+abbrev pub take_at : List ℕ → Front Command
+take_at bytes = Some (Take, bytes)
+
+abbrev pub join_at : List ℕ → Front Command
+join_at bytes = do
+  left ← operand_at bytes
+  right ← operand_at left.1
+  Some (Join left.0 right.0, right.1)
+
+abbrev pub cut_at : List ℕ → Front Command
+cut_at bytes = do
+  number ← operand_at bytes
+  part ← fragment_at number.1
+  Some (Cut number.0 part.0, part.1)
+
+abbrev pub places_at : List ℕ → Front Command
+places_at bytes = do
+  number ← operand_at bytes
+  pattern ← fragment_at number.1
+  field ← fragment_at pattern.1
+  Some (Places number.0 pattern.0 field.0, field.1)
+
+-- the command of a letter, C, T, J, K or F, with its operands; absent when the letter is unknown
+abbrev pub said_by : ℕ → List ℕ → Front Command
 said_by letter bytes =
-    cond (letter == 67) (whole bytes (Glyph (operand 1 bytes)))
-    (cond (letter == 84) (whole bytes Take)
-    (cond (letter == 74) (whole bytes (Join (operand 1 bytes) (operand 2 bytes)))
-    (cond (letter == 75) (whole bytes (Cut (operand 1 bytes) (fragment 2 bytes)))
-    (cond (letter == 70) (whole bytes (Places (operand 1 bytes) (fragment 2 bytes) (fragment 4 bytes))) None))))
+    cond (letter == 67) (glyph_at bytes)
+    (cond (letter == 84) (take_at bytes)
+    (cond (letter == 74) (join_at bytes)
+    (cond (letter == 75) (cut_at bytes)
+    (cond (letter == 70) (places_at bytes) None))))
 
--- the command at the front of some bytes
-unfoldable pub command_of : List ℕ → Option Command
-command_of [] = None
-command_of (letter ∷ rest) = said_by letter (letter ∷ rest)
+-- the command at the front of some bytes: its letter, then its operands
+unfoldable pub command_at : List ℕ → Front Command
+command_at [] = None
+command_at (letter ∷ rest) = said_by letter rest
 
 -- what stands in a job: a command with the place of its letter; or a place where none can be read, after
 -- which nothing is looked at
@@ -46,17 +74,17 @@ pub data Entry : Type 0 where
   reads : ℕ → Command → Entry
   unreadable : ℕ → Entry
 
--- the entry at a place, by what can be read there, before those that come after so many more bytes
-abbrev pub entry_before : ℕ → Option Command → (ℕ → List Entry) → List Entry
-entry_before place None more = unreadable place ∷ []
-entry_before place (Some command) more = reads place command ∷ more (size_of command - 1)
+-- the entry at a place, by what stands there, before those that come after it
+abbrev pub entry_before : ℕ → Front Command → (List ℕ → List Entry) → List Entry
+entry_before place None after = unreadable place ∷ []
+entry_before place (Some read) after = reads place read.0 ∷ after read.1
 
--- the entries of the bytes from this place on, when the first `passed` of them belong to a command that has
--- been read
-abbrev pub entries_from : ℕ → ℕ → List ℕ → List Entry
-entries_from passed place [] = []
-entries_from (suc passed) place (b ∷ bs) = entries_from passed (place + 1) bs
-entries_from zero place (b ∷ bs) = entry_before place (command_of (b ∷ bs)) (λ passed. entries_from passed (place + 1) bs)
+-- the entries of the bytes that are left of a job of this size, up to a limit
+abbrev pub entries_within : ℕ → ℕ → List ℕ → List Entry
+entries_within zero size rest = []
+entries_within (suc limit) size [] = []
+entries_within (suc limit) size (b ∷ bs) = entry_before (size - length (b ∷ bs)) (command_at (b ∷ bs)) (entries_within limit size)
 
+-- the entries of a job, of which there are no more than bytes, since each command has its letter
 unfoldable pub entries : List ℕ → List Entry
-entries job = entries_from 0 0 job
+entries job = entries_within (length job) (length job) job

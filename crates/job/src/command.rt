@@ -1,30 +1,30 @@
 // The commands of a job.
 
-ghost use Rattle.std.specs.Prelude.{◌≡◌, ◌+◌, ◌*◌, slice_index};
-ghost use Rattle.job.specs.Commands.{command_of, size_of};
+ghost use Rattle.std.specs.Prelude.{◌≡◌, ◌+◌, ◌*◌, option_map};
+ghost use Rattle.job.specs.Commands.{command_at};
 
 use periodicity::Fragment;
 
-// One letter and its operands.
+/// One letter and its operands.
 #[derive(Clone, Copy)]
 pub enum Command {
-    // C: a glyph is put on the tray.
+    /// C: a glyph is put on the tray.
     Glyph {
         number: u16,
     },
-    // T: the tray is taken onto the shelf, and emptied.
+    /// T: the tray is taken onto the shelf, and emptied.
     Take,
-    // J: the strips of two numbers are joined.
+    /// J: the strips of two numbers are joined.
     Join {
         left: u16,
         right: u16,
     },
-    // K: a part of a number's strip is cut out.
+    /// K: a part of a number's strip is cut out.
     Cut {
         number: u16,
         part: Fragment,
     },
-    // F: the places of a pattern in a field of a number's strip are asked for.
+    /// F: the places of a pattern in a field of a number's strip are asked for.
     Places {
         number: u16,
         pattern: Fragment,
@@ -32,62 +32,88 @@ pub enum Command {
     },
 }
 
-// A number of two bytes, high byte first.
+// A number of two bytes.
 fn operand(high: u8, low: u8) -> u16
     ensures { result ≡ 256 * high + low }
 {
     u16::from_be_bytes([high, low])
 }
 
-// A start and a length, two bytes each.
-fn fragment(bytes: [u8; 4]) -> Fragment
-    ensures { result ≡ record { start = 256 * slice_index bytes 0 + slice_index bytes 1; length = 256 * slice_index bytes 2 + slice_index bytes 3 } }
+// A start and a length.
+fn fragment(start: u16, length: u16) -> Fragment
+    ensures { result ≡ record { start = start; length = length } }
 {
-    let [a, b, c, d] = bytes;
     Fragment {
-        start: usize::from(operand(a, b)),
-        length: usize::from(operand(c, d)),
+        start: usize::from(start),
+        length: usize::from(length),
     }
 }
 
 impl Command {
-    // The command at the front of some bytes; none when the letter is unknown or the command is cut short.
+    /// The command at the front of some bytes, and the bytes after it; none when the letter is unknown or the
+    /// command is cut short.
     #[tactic(auto, using(crate::proofs::Letters::readings))]
-    pub fn read(bytes: &[u8]) -> Option<Command>
-        ensures { result ≡ command_of bytes.now }
+    pub fn read(bytes: &[u8]) -> Option<(Command, &[u8])>
+        ensures { option_map (λ read. (read.0, read.1.now)) result ≡ command_at bytes.now }
     {
         match bytes {
-            [b'C', a, b, ..] => Some(Command::Glyph {
-                number: operand(*a, *b),
-            }),
-            [b'T', ..] => Some(Command::Take),
-            [b'J', a, b, c, d, ..] => Some(Command::Join {
-                left: operand(*a, *b),
-                right: operand(*c, *d),
-            }),
-            [b'K', a, b, c, d, e, f, ..] => Some(Command::Cut {
-                number: operand(*a, *b),
-                part: fragment([*c, *d, *e, *f]),
-            }),
-            [b'F', a, b, c, d, e, f, g, h, i, j, ..] => Some(Command::Places {
-                number: operand(*a, *b),
-                pattern: fragment([*c, *d, *e, *f]),
-                field: fragment([*g, *h, *i, *j]),
-            }),
+            [b'C', high, low, rest @ ..] => {
+                let number = operand(*high, *low);
+                Some((Command::Glyph { number }, rest))
+            }
+            [b'T', rest @ ..] => Some((Command::Take, rest)),
+            [b'J', left_high, left_low, right_high, right_low, rest @ ..] => {
+                let left = operand(*left_high, *left_low);
+                let right = operand(*right_high, *right_low);
+                Some((Command::Join { left, right }, rest))
+            }
+            [
+                b'K',
+                number_high,
+                number_low,
+                start_high,
+                start_low,
+                length_high,
+                length_low,
+                rest @ ..,
+            ] => {
+                let number = operand(*number_high, *number_low);
+                let start = operand(*start_high, *start_low);
+                let length = operand(*length_high, *length_low);
+                let part = fragment(start, length);
+                Some((Command::Cut { number, part }, rest))
+            }
+            [
+                b'F',
+                number_high,
+                number_low,
+                pattern_start_high,
+                pattern_start_low,
+                pattern_length_high,
+                pattern_length_low,
+                field_start_high,
+                field_start_low,
+                field_length_high,
+                field_length_low,
+                rest @ ..,
+            ] => {
+                let number = operand(*number_high, *number_low);
+                let pattern = fragment(
+                    operand(*pattern_start_high, *pattern_start_low),
+                    operand(*pattern_length_high, *pattern_length_low),
+                );
+                let field = fragment(
+                    operand(*field_start_high, *field_start_low),
+                    operand(*field_length_high, *field_length_low),
+                );
+                let command = Command::Places {
+                    number,
+                    pattern,
+                    field,
+                };
+                Some((command, rest))
+            }
             _ => None,
-        }
-    }
-
-    // How many bytes it has, its letter and two for each operand.
-    pub fn size(self) -> usize
-        ensures { result ≡ size_of self }
-    {
-        match self {
-            Command::Glyph { .. } => 3,
-            Command::Take => 1,
-            Command::Join { .. } => 5,
-            Command::Cut { .. } => 7,
-            Command::Places { .. } => 11,
         }
     }
 }

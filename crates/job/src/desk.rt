@@ -1,7 +1,7 @@
 // The desk at which a job is run: a glyph shelf, the tray and the work area.
 
-ghost use Rattle.std.specs.Prelude.{◌≡◌, [], ◌∷◌, IfOk, OnOk};
-ghost use Rattle.job.specs.Commands.{command_of};
+ghost use Rattle.std.specs.Prelude.{◌≡◌, [], ◌∷◌, IfOk, OnOk, option_map};
+ghost use Rattle.job.specs.Commands.{command_at};
 ghost use Rattle.job.specs.Runs.{nothing_yet, fits as fits_on};
 ghost use Rattle.job.specs.Lines.{told_in};
 ghost use Rattle.shelf.specs.Contents.{kind_of};
@@ -55,11 +55,11 @@ impl Desk {
         }
     }
 
-    // The command at the front of some bytes, unless it cannot be read or done.
-    pub(crate) fn next(&self, bytes: &[u8]) -> Option<Command>
-        ensures { result ≡ doable self.now.tray.items (command_of bytes.now) }
+    // The command at the front of some bytes, with the bytes after it, unless it cannot be read or done.
+    pub(crate) fn next<'a>(&self, bytes: &'a [u8]) -> Option<(Command, &'a [u8])>
+        ensures { option_map (λ read. (read.0, read.1.now)) result ≡ doable self.now.tray.items (command_at bytes.now) }
     {
-        Command::read(bytes).filter(|command| self.fits(*command))
+        Command::read(bytes).filter(|(command, _)| self.fits(*command))
     }
 
     // Puts a glyph on the tray.

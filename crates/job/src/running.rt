@@ -1,8 +1,9 @@
 // Running a job: from its bytes to the bytes that it prints.
 
-ghost use Rattle.std.specs.Prelude.{◌≡◌, ◌++◌, IfOk, string_bytes, OnOk};
+ghost use Rattle.std.specs.Prelude.{◌≡◌, ◌≤◌, ◌++◌, length, IfOk, string_bytes, OnOk};
 ghost use Rattle.std.specs.List.{flat_map};
 ghost use Rattle.job.specs.Commands.{entries};
+ghost use Rattle.job.specs.Desks.{told_at_end};
 ghost use Rattle.job.specs.Lines.{told_in, line_bytes, printed_by, LawfulPrintout};
 ghost use Rattle.job.specs.Runs.{nothing_yet, told_from};
 
@@ -22,6 +23,18 @@ fn print(text: &mut String, line: Line) -> Result<(), AllocError>
     writeln!(text, "{line}")
 }
 
+// Adds the line that says where a job stopped, unless no bytes of it are left.
+fn print_stop(text: &mut String, job: &[u8], rest: &[u8]) -> Result<(), AllocError>
+    requires { length rest.now ≤ length job.now }
+    ensures { OnOk result (string_bytes text.new ≡ string_bytes text.old ++ flat_map line_bytes (told_at_end job.now rest.now)) }
+{
+    if rest.is_empty() {
+        return Ok(());
+    }
+    let place = job.len() - rest.len();
+    print(text, Line::Stopped { place })
+}
+
 // All that is printed for the commands of a job. Where bytes are left that no command that can be done begins,
 // the job stops.
 #[tactic(auto, using(crate::proofs::Turns::turns))]
@@ -31,17 +44,13 @@ fn run_commands(heap: Global, job: &[u8]) -> Result<String, AllocError>
     let mut desk = Desk::new(heap);
     let mut text = String::new(heap);
     let mut rest = job;
-    while let Some(command) = desk.next(rest) {
+    while let Some((command, after)) = desk.next(rest) {
         if let Some(line) = desk.perform(command)? {
             print(&mut text, line)?;
         }
-        rest = &rest[command.size()..];
+        rest = after;
     }
-    if rest.is_empty() {
-        return Ok(text);
-    }
-    let place = job.len() - rest.len();
-    print(&mut text, Line::Stopped { place })?;
+    print_stop(&mut text, job, rest)?;
     Ok(text)
 }
 

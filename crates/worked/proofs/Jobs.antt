@@ -5,7 +5,7 @@ use Rattle.rows.specs.Filing.{find}
 use Rattle.rows.specs.Rounds.{is_left, blocks, file_all, rounds_from, settle}
 use Rattle.rows.specs.Strips.{strip}
 use Rattle.book.specs.Calls.{filing, taken, joined_up, cut_out}
-use Rattle.job.specs.Commands.{command_of, entries}
+use Rattle.job.specs.Commands.{command_at, entries}
 use Rattle.job.specs.Lines.{line_text, printed_by}
 use Rattle.job.specs.Runs.{told_of}
 use Rattle.worked.specs.Examples.{AllHold}
@@ -13,5 +13,5 @@ use Rattle.worked.specs.Jobs.{jobs_examples}
 use Rattle.worked.proofs.Joins.{◌also◌}
 
 pub jobs_hold : AllHold jobs_examples
-unfolding printed_by told_of entries command_of line_text digits taken filing joined_up cut_out settle rounds_from file_all blocks is_left find strip
+unfolding printed_by told_of entries command_at line_text digits taken filing joined_up cut_out settle rounds_from file_all blocks is_left find strip
 jobs_hold = refl also refl also refl also refl also refl also tt
