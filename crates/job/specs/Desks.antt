@@ -1,8 +1,9 @@
 -- How things stand on a desk, and what a turn there does. Assumes nothing.
-use Rattle.std.specs.Prelude.{◌≡◌, ℕ, ◌-◌, length, cond, List, [], ◌∷◌, Some, None, vec_items, Option}
+use Rattle.std.specs.Prelude.{◌≡◌, ℕ, ◌-◌, length, cond, List, [], ◌∷◌, Some, None, vec_items, Option, ⊤}
 use Rattle.cells.specs.declared.glyph.Glyph.{Glyph}
 use Rattle.shelf.specs.Contents.{book_of}
 use Rattle.job.specs.declared.command.Command.{Command}
+use Rattle.job.specs.declared.command.Command.TheVariants.{Glyph as put, Take, Join, Cut, Places}
 use Rattle.job.specs.declared.desk.Desk.{Desk}
 use Rattle.job.specs.declared.line.Line.{Line}
 use Rattle.job.specs.Commands.{Front}
@@ -26,6 +27,14 @@ told_lines (Some l) = told_in l ∷ []
 abbrev pub told_at_end : List ℕ → List ℕ → List Told
 told_at_end job [] = []
 told_at_end job (b ∷ bs) = stopped (length job - length (b ∷ bs)) ∷ []
+
+-- a command that puts a glyph on the tray, which alone takes memory
+abbrev pub PutsGlyph : Command → Type 0
+PutsGlyph (put number) = ⊤
+PutsGlyph Take = ⊥
+PutsGlyph (Join left right) = ⊥
+PutsGlyph (Cut number part) = ⊥
+PutsGlyph (Places number pattern field) = ⊥
 
 -- what a command tells, and how it leaves things
 pub record Does (before : Standing) (command : Command) (tells : List Told) (standing : Standing) : Type 0 where

@@ -7,17 +7,17 @@ use Rattle.book.specs.Runs.{answers_of, strips_of}
 use Rattle.book.specs.Calls.{Answer, numbered, no_rows, refused, refused_at}
 use Rattle.questions.specs.Found.{refused_shown, found_text}
 use Rattle.questions.specs.Outcomes.{outcome}
-use Rattle.shelf.specs.Refusals.{told}
+use Rattle.shelf.specs.Refusals.{told as answer_of}
 use Rattle.job.specs.declared.line.Line.{Line}
 use Rattle.job.specs.declared.line.Line.TheVariants as line
 use Rattle.job.specs.Runs.{Told, of_take, of_join, of_cut, of_places, stopped, too_long, told_of, calls_of, answers_in}
 
 -- what a line of the program tells
 abbrev pub told_in : Line → Told
-told_in (line.Take r) = of_take (told r)
-told_in (line.Join r) = of_join (told r)
-told_in (line.Cut r) = of_cut (told r)
-told_in (line.Places r) = of_places (outcome r)
+told_in (line.Take r) = of_take (answer_of r)
+told_in (line.Join r) = of_join (answer_of r)
+told_in (line.Cut r) = of_cut (answer_of r)
+told_in (line.Places found) = of_places (outcome found.0)
 told_in (line.Stopped place) = stopped place
 told_in line.TooLong = too_long
 

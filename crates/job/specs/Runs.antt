@@ -37,9 +37,13 @@ calls_by tray (Join left right) = record { call = book.joining left right; place
 calls_by tray (Cut number part) = record { call = book.cutting number part.start part.length; places = work_places } ∷ []
 calls_by tray (Places number pattern field) = []
 
--- the tray after a command: T empties it, refused or not
+-- whether the tray has room for a glyph
+abbrev pub has_room : List Glyph → Bool
+has_room tray = nat_lt (length tray) most_glyphs
+
+-- the tray after a command: a full one takes no glyph, and T empties it, refused or not
 abbrev pub tray_after : List Glyph → Command → List Glyph
-tray_after tray (put number) = tray ++ (glyph_of number ∷ [])
+tray_after tray (put number) = cond (has_room tray) (tray ++ (glyph_of number ∷ [])) tray
 tray_after tray Take = []
 tray_after tray (Join left right) = tray
 tray_after tray (Cut number part) = tray
@@ -47,7 +51,7 @@ tray_after tray (Places number pattern field) = tray
 
 -- whether a command can be done: a glyph only while the tray has room
 abbrev pub fits : List Glyph → Command → Bool
-fits tray (put number) = nat_lt (length tray) most_glyphs
+fits tray (put number) = has_room tray
 fits tray Take = true
 fits tray (Join left right) = true
 fits tray (Cut number part) = true

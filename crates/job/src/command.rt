@@ -1,4 +1,4 @@
-// The commands of a job.
+//! The commands of a job.
 
 ghost use Rattle.std.specs.Prelude.{◌≡◌, ◌+◌, ◌*◌, option_map};
 ghost use Rattle.job.specs.Commands.{command_at};

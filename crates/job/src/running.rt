@@ -1,4 +1,4 @@
-// Running a job: from its bytes to the bytes that it prints.
+//! Running a job: from its bytes to the bytes that it prints.
 
 ghost use Rattle.std.specs.Prelude.{◌≡◌, ◌≤◌, ◌++◌, length, IfOk, string_bytes, OnOk};
 ghost use Rattle.std.specs.List.{flat_map};
@@ -13,7 +13,7 @@ use book::law_of_the_book;
 use cells::Glyph;
 use std::alloc::{AllocError, Global};
 
-// The most bytes of a job.
+/// The most bytes of a job.
 pub const MOST_BYTES: usize = 32768;
 
 // Adds the bytes of a line, which `Line::bytes` gives of a line alone.
@@ -54,8 +54,10 @@ fn run_commands(heap: Global, job: &[u8]) -> Result<String, AllocError>
     Ok(text)
 }
 
-// Runs a job on an empty glyph shelf: all bytes that it prints. Any two T, J or K lines that tell numbers tell
-// equal ones exactly when the strips that they wrote are the same, glyph for glyph.
+/// Runs a job on an empty glyph shelf: all bytes that it prints. Any two T, J or K lines that tell numbers tell
+/// equal ones exactly when the strips that they wrote are the same, glyph for glyph. It errs only where memory is short.
+///
+/// The job `C 00 05 T J 00 01 00 01`, each letter a byte, prints `T 1` and `J 2`.
 #[tactic(auto, using(crate::proofs::Law::printouts))]
 pub fn run(heap: Global, job: &[u8]) -> Result<String, AllocError>
     ensures printed { IfOk result (λ text. string_bytes text ≡ printed_by job.now) }
