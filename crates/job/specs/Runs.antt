@@ -5,6 +5,7 @@ use Rattle.cells.specs.Glyphs.{glyph_of, glyph_code}
 use Rattle.rows.specs.Strips.{strip}
 use Rattle.book.specs.Calls as book
 use Rattle.book.specs.Runs.{Sent}
+use Rattle.periodicity.specs.declared.Fragment.{Fragment}
 use Rattle.periodicity.specs.declared.Progression.{Progression}
 use Rattle.questions.specs.Outcomes.{Outcome, places_outcome}
 use Rattle.job.specs.declared.command.Command.{Command}
@@ -120,3 +121,38 @@ answers_in (of_cut a ∷ rest) = a ∷ answers_in rest
 answers_in (of_places found ∷ rest) = answers_in rest
 answers_in (stopped place ∷ rest) = answers_in rest
 answers_in (too_long ∷ rest) = answers_in rest
+
+-- what an F command asks: the places of a pattern in a field of the strip that its number has at that moment
+pub record Asked : Type 0 where
+  pub strip : List ℕ
+  pub pattern : Fragment
+  pub field : Fragment
+
+-- the question that a command asks, if it is one
+abbrev pub asked_by : Standing → Command → List Asked
+asked_by s (put number) = []
+asked_by s Take = []
+asked_by s (Join left right) = []
+asked_by s (Cut number part) = []
+asked_by s (Places number pattern field) = record { strip = strip s.book.rows number; pattern = pattern; field = field } ∷ []
+
+-- the questions that entries ask
+abbrev pub asked_from : Standing → List Entry → List Asked
+asked_from s [] = []
+asked_from s (unreadable place ∷ rest) = []
+asked_from s (reads place command ∷ rest) =
+    cond (fits s.tray command) (asked_by s command ++ asked_from (after s command) rest) []
+
+-- the questions that a job asks, from its bytes and the plain book alone
+unfoldable pub asked_of : List ℕ → List Asked
+asked_of job = cond (nat_le (length job) most_bytes) (asked_from nothing_yet (entries job)) []
+
+-- what was found, in the F lines
+abbrev pub found_in : List Told → List (Outcome (Option Progression))
+found_in [] = []
+found_in (of_take a ∷ rest) = found_in rest
+found_in (of_join a ∷ rest) = found_in rest
+found_in (of_cut a ∷ rest) = found_in rest
+found_in (of_places found ∷ rest) = found ∷ found_in rest
+found_in (stopped place ∷ rest) = found_in rest
+found_in (too_long ∷ rest) = found_in rest

@@ -55,7 +55,8 @@ fn run_commands(heap: Global, job: &[u8]) -> Result<String, AllocError>
 }
 
 /// Runs a job on an empty glyph shelf: all bytes that it prints. Any two T, J or K lines that tell numbers tell
-/// equal ones exactly when the strips that they wrote are the same, glyph for glyph. It errs only where memory is short.
+/// equal ones exactly when the strips that they wrote are the same, glyph for glyph; an F line names exactly the places
+/// where its pattern stands. It errs only where memory is short.
 ///
 /// The job `C 00 05 T J 00 01 00 01`, each letter a byte, prints `T 1` and `J 2`.
 #[tactic(auto, using(crate::proofs::Law::printouts))]
