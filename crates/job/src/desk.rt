@@ -8,11 +8,10 @@ ghost use Rattle.shelf.specs.Contents.{kind_of};
 
 use crate::command::Command;
 use crate::line::Line;
-use ask::Found;
 use cells::Glyph;
 use keepers::Keeper;
 use periodicity::Fragment;
-use questions::places;
+use questions::{Found, places};
 use shelf::Shelf;
 use shelf_strip::ShelfStrip;
 use std::alloc::{AllocError, Global};

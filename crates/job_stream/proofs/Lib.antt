@@ -1,2 +1,3 @@
 -- Facts that the proofs of this crate share.
 mod Beginnings
+mod Writing

@@ -1,2 +1,2 @@
--- When a job over streams failed.
+-- When a job over streams failed, and what that leaves.
 pub mod Moments

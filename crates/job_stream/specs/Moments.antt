@@ -1,5 +1,6 @@
--- When a job over streams failed. Assumes nothing.
-use Rattle.std.specs.Prelude.{⊤}
+-- When a job over streams failed, and what that leaves. Assumes nothing.
+use Rattle.std.specs.Prelude.{ℕ, ◌≤◌, List, length, take, Option, ⊤}
+use Rattle.std.specs.Io.KnownBytes.{Appends}
 use Rattle.failures.specs.declared.failure.Failure.{Failure}
 use Rattle.failures.specs.declared.failure.Failure.TheVariants.{Read, Memory, Write}
 
@@ -8,3 +9,7 @@ abbrev pub FailedBeforeWriting : Failure → Type 0
 FailedBeforeWriting (Read error) = ⊤
 FailedBeforeWriting Memory = ⊤
 FailedBeforeWriting (Write error) = ⊥
+
+-- known bytes grow by a beginning of these: none of them, some, or all
+abbrev pub AppendsBeginning : Option (List ℕ) → Option (List ℕ) → List ℕ → Type 0
+AppendsBeginning old new bytes = (count : ℕ) × (count ≤ length bytes) × Appends old new (take count bytes)
