@@ -1,5 +1,5 @@
 // Sending: a list of takes, joins and cuts, each working on what the earlier ones left.
-ghost use Rattle.std.specs.Prelude.{◌≡◌, min, map, length, take, replicate, ◌==◌};
+ghost use Rattle.std.specs.Prelude.{◌≡◌, [], min, map, length, take, replicate, ◌==◌};
 ghost use Rattle.book.specs.Calls.{turn};
 ghost use Rattle.book.specs.Runs.{book_after, answers_of};
 ghost use Rattle.cells.specs.Giving.{given_by};
@@ -70,7 +70,17 @@ impl Shelf {
         count
     }
 
+    // A new shelf, told by its rows and its kind alone: with more to choose from, the checker does not find by itself
+    // what `begin` promises.
+    fn fresh<K: CellKind>() -> Shelf
+        ensures rows { rows_on result ≡ [] }
+        ensures kind { kind_of result ≡ K.NUMBER }
+    {
+        Shelf::new::<K>()
+    }
+
     // A new shelf of a kind and the requests sent to it, told by a book that is fed the requests alone.
+    #[tactic(auto, using(crate::proofs::Beginning::begun))]
     pub fn begin<K: CellKind>(
         requests: &[Sent<K>],
         answers: &mut [Answer],
@@ -80,7 +90,7 @@ impl Shelf {
         ensures kind { kind_of result ≡ K.NUMBER }
         ensures cleared { work.new ≡ replicate (length work.old) 0 }
     {
-        let mut shelf = Shelf::new::<K>();
+        let mut shelf = Shelf::fresh::<K>();
         shelf.send(requests, answers, work);
         shelf
     }
