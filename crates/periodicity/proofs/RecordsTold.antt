@@ -370,8 +370,10 @@ module _ (xs : List ℕ) (some : 1 ≤ length xs) where
 pub written_named : (xs : List ℕ) → 1 ≤ length xs → length xs ≤ 65535 → PeriodsNamed xs (written_records xs)
 unfolding written_records
 written_named xs some short =
-    let all = (written_name_all xs some short).1 in
+    let both = written_name_all xs some short in
+    let all = both.1 in
     record {
+      many = both.0;
       ranges = ranges_named xs some 16 (17 - length (records_of xs));
       once = all;
       exact = λ p. subst (λ ys. ContainsAt ys p ↔ ((1 ≤ p) × (p ≤ length xs) × Period xs p)) (sym all) (period_among xs p);

@@ -64,8 +64,10 @@ RangeByRange xs (suc t) records =
     (((p : ℕ) → PeriodInRange xs t p → ⊥) × RangeByRange xs t records)
     ⊎ ((r : Progression) × (rest : List Progression) × (records ≡ r ∷ rest) × RangeNamed xs t r × RangeByRange xs t rest)
 
--- what 17 records say of the periods of a list
+-- what records say of the periods of a list
 pub record PeriodsNamed (xs : List ℕ) (records : List Progression) : Type 0 where
+  -- there are 17
+  pub many : length records ≡ 17
   -- each in use names the periods of one range of borders, the greatest range first and border 0 last; borders of
   -- at most 65,535 codes are below 2^16
   pub ranges : RangeByRange xs 16 records
