@@ -1,4 +1,4 @@
-// What a case asks: a question of some codes through layers upon layers, more of them than a line of questions names.
+//! What a case asks: a question of some codes through layers upon layers, more of them than a line of questions names.
 
 ghost use Rattle.std.specs.Prelude.{◌≡◌};
 ghost use Rattle.ask.specs.Answers.{reply_of, reply_to, seen_through};
@@ -10,7 +10,7 @@ use shelf::Shelf;
 use shelf_strip::ShelfStrip;
 use std::alloc::{AllocError, Global};
 
-// The codes, the layers from the strip outwards in two parts, and the question.
+/// The codes, the layers from the strip outwards in two parts, and the question.
 #[derive(Drop)]
 pub struct Asked {
     pub codes: Vec<u32>,

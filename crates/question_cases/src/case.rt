@@ -1,4 +1,4 @@
-// A case: a question about a strip, the layers between them, and the answer that is expected.
+//! A case: a question about a strip, the layers between them, and the answer that is expected.
 
 ghost use Rattle.std.specs.Prelude.{◌≡◌, IfOk, string_bytes};
 ghost use Rattle.ask.specs.Transcript.{transcript_of};
@@ -8,8 +8,8 @@ use crate::asked::Asked;
 use ask::{Line, parse, transcript};
 use std::alloc::{AllocError, Global};
 
-// The columns of a line `question | codes | layers | arguments | answer`, where the layers with their bar may
-// be left out. Layers stand from the strip outwards, with a comma between two piles of them.
+/// The columns of a line `question | codes | layers | arguments | answer`, where the layers with their bar may
+/// be left out. Layers stand from the strip outwards, with a comma between two piles of them.
 #[derive(Clone, Copy)]
 pub struct Case<'a> {
     pub question: &'a str,

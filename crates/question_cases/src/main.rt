@@ -1,5 +1,5 @@
-// Runs files of cases through the questions, and says how many answers are the expected ones: of the caller's codes,
-// and of the same strip on a shelf.
+//! Runs files of cases through the questions, and says how many answers are the expected ones: of the caller's codes,
+//! and of the same strip on a shelf.
 #![tactic(auto)]
 
 mod asked;

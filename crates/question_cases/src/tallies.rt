@@ -1,8 +1,8 @@
-// How many cases were run of each question, and how many of them agree.
+//! How many cases were run of each question, and how many of them agree.
 
 use tally::Tally;
 
-// A tally for each question, and how many lines name none of them.
+/// A tally for each question, and how many lines name none of them.
 #[derive(Clone, Copy, Default)]
 pub struct Tallies {
     pub places: Tally,

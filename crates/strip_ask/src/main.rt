@@ -1,4 +1,4 @@
-// Answers questions about a strip: reads lines from standard input, and prints a line for each question.
+//! Answers questions about a strip: reads lines from standard input, and prints a line for each question.
 #![tactic(auto)]
 
 use ask::transcript;
