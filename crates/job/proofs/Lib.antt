@@ -1,4 +1,5 @@
 -- Facts that the proofs of this crate share.
 mod Letters
+mod Spelled
 mod Turns
 mod Law

@@ -1,5 +1,6 @@
 -- The commands that the bytes of a job say. Assumes nothing.
-use Rattle.std.specs.Prelude.{ℕ, zero, suc, ◌+◌, ◌-◌, ◌*◌, cond, List, [], ◌∷◌, length, Some, None, Option, option_and_then, ◌==◌}
+use Rattle.std.specs.Prelude.{ℕ, zero, suc, ◌+◌, ◌-◌, ◌*◌, ◌/◌, ◌%◌, cond, List, [], ◌∷◌, ◌++◌, length, Some, None, Option, option_and_then, ◌==◌}
+use Rattle.std.specs.Borrow.{Bor}
 use Rattle.periodicity.specs.declared.Fragment.{Fragment}
 use Rattle.job.specs.declared.command.Command.{Command}
 use Rattle.job.specs.declared.command.Command.TheVariants.{Glyph, Take, Join, Cut, Places}
@@ -7,6 +8,11 @@ use Rattle.job.specs.declared.command.Command.TheVariants.{Glyph, Take, Join, Cu
 -- what stands at the front of some bytes, with the bytes after it; absent when they do not begin with one
 abbrev pub Front : Type 0 → Type 0
 Front A = Option (A × List ℕ)
+
+-- what a reader of the front answered, seen with the bytes that its reference points to
+abbrev pub seen : {A : Type 0} → Option (A × Bor (List ℕ)) → Front A
+seen None = None
+seen (Some read) = Some (read.0, read.1.now)
 
 -- something at the front, and then what its value and the bytes after it give
 infixl 10 ◌>>=◌
@@ -67,6 +73,20 @@ said_by letter bytes =
 unfoldable pub command_at : List ℕ → Front Command
 command_at [] = None
 command_at (letter ∷ rest) = said_by letter rest
+
+-- how a command is spelled: its letter, then two bytes for each operand, high byte first
+abbrev pub number_spelled : ℕ → List ℕ
+number_spelled n = n / 256 ∷ (n % 256 ∷ [])
+
+abbrev pub fragment_spelled : Fragment → List ℕ
+fragment_spelled part = number_spelled part.start ++ number_spelled part.length
+
+abbrev pub spelling : Command → List ℕ
+spelling (Glyph number) = 67 ∷ number_spelled number
+spelling Take = 84 ∷ []
+spelling (Join left right) = 74 ∷ (number_spelled left ++ number_spelled right)
+spelling (Cut number part) = 75 ∷ (number_spelled number ++ fragment_spelled part)
+spelling (Places number pattern field) = 70 ∷ (number_spelled number ++ (fragment_spelled pattern ++ fragment_spelled field))
 
 -- what stands in a job: a command with the place of its letter; or a place where none can be read, after
 -- which nothing is looked at

@@ -1,7 +1,7 @@
 //! The commands of a job.
 
-ghost use Rattle.std.specs.Prelude.{◌≡◌, ◌+◌, ◌*◌, option_map};
-ghost use Rattle.job.specs.Commands.{command_at};
+ghost use Rattle.std.specs.Prelude.{◌≡◌, ◌+◌, ◌*◌, ◌++◌, List, ℕ, Some, IfSome};
+ghost use Rattle.job.specs.Commands.{seen, command_at, spelling};
 
 use periodicity::Fragment;
 
@@ -49,71 +49,80 @@ fn fragment(start: u16, length: u16) -> Fragment
     }
 }
 
+// The command at the front of some bytes.
+#[tactic(auto, using(crate::proofs::Letters::readings))]
+fn at_front(bytes: &[u8]) -> Option<(Command, &[u8])>
+    ensures { seen result ≡ command_at bytes.now }
+{
+    match bytes {
+        [b'C', high, low, rest @ ..] => {
+            let number = operand(*high, *low);
+            Some((Command::Glyph { number }, rest))
+        }
+        [b'T', rest @ ..] => Some((Command::Take, rest)),
+        [b'J', left_high, left_low, right_high, right_low, rest @ ..] => {
+            let left = operand(*left_high, *left_low);
+            let right = operand(*right_high, *right_low);
+            Some((Command::Join { left, right }, rest))
+        }
+        [
+            b'K',
+            number_high,
+            number_low,
+            start_high,
+            start_low,
+            length_high,
+            length_low,
+            rest @ ..,
+        ] => {
+            let number = operand(*number_high, *number_low);
+            let start = operand(*start_high, *start_low);
+            let length = operand(*length_high, *length_low);
+            let part = fragment(start, length);
+            Some((Command::Cut { number, part }, rest))
+        }
+        [
+            b'F',
+            number_high,
+            number_low,
+            pattern_start_high,
+            pattern_start_low,
+            pattern_length_high,
+            pattern_length_low,
+            field_start_high,
+            field_start_low,
+            field_length_high,
+            field_length_low,
+            rest @ ..,
+        ] => {
+            let number = operand(*number_high, *number_low);
+            let pattern = fragment(
+                operand(*pattern_start_high, *pattern_start_low),
+                operand(*pattern_length_high, *pattern_length_low),
+            );
+            let field = fragment(
+                operand(*field_start_high, *field_start_low),
+                operand(*field_length_high, *field_length_low),
+            );
+            let command = Command::Places {
+                number,
+                pattern,
+                field,
+            };
+            Some((command, rest))
+        }
+        _ => None,
+    }
+}
+
 impl Command {
     /// The command at the front of some bytes, and the bytes after it; none when the letter is unknown or the
-    /// command is cut short.
-    #[tactic(auto, using(crate::proofs::Letters::readings))]
+    /// command is cut short. Bytes `54 43 00 05`, base 16, give T with `43 00 05` after it.
     pub fn read(bytes: &[u8]) -> Option<(Command, &[u8])>
-        ensures { option_map (λ read. (read.0, read.1.now)) result ≡ command_at bytes.now }
+        ensures value { seen result ≡ command_at bytes.now }
+        ensures spelled { IfSome (seen result) (λ read. bytes.now ≡ spelling read.0 ++ read.1) }
+        ensures only { (command : Command) (rest : List ℕ) → bytes.now ≡ spelling command ++ rest → seen result ≡ Some (command, rest) }
     {
-        match bytes {
-            [b'C', high, low, rest @ ..] => {
-                let number = operand(*high, *low);
-                Some((Command::Glyph { number }, rest))
-            }
-            [b'T', rest @ ..] => Some((Command::Take, rest)),
-            [b'J', left_high, left_low, right_high, right_low, rest @ ..] => {
-                let left = operand(*left_high, *left_low);
-                let right = operand(*right_high, *right_low);
-                Some((Command::Join { left, right }, rest))
-            }
-            [
-                b'K',
-                number_high,
-                number_low,
-                start_high,
-                start_low,
-                length_high,
-                length_low,
-                rest @ ..,
-            ] => {
-                let number = operand(*number_high, *number_low);
-                let start = operand(*start_high, *start_low);
-                let length = operand(*length_high, *length_low);
-                let part = fragment(start, length);
-                Some((Command::Cut { number, part }, rest))
-            }
-            [
-                b'F',
-                number_high,
-                number_low,
-                pattern_start_high,
-                pattern_start_low,
-                pattern_length_high,
-                pattern_length_low,
-                field_start_high,
-                field_start_low,
-                field_length_high,
-                field_length_low,
-                rest @ ..,
-            ] => {
-                let number = operand(*number_high, *number_low);
-                let pattern = fragment(
-                    operand(*pattern_start_high, *pattern_start_low),
-                    operand(*pattern_length_high, *pattern_length_low),
-                );
-                let field = fragment(
-                    operand(*field_start_high, *field_start_low),
-                    operand(*field_length_high, *field_length_low),
-                );
-                let command = Command::Places {
-                    number,
-                    pattern,
-                    field,
-                };
-                Some((command, rest))
-            }
-            _ => None,
-        }
+        at_front(bytes)
     }
 }

@@ -1,7 +1,7 @@
 //! The desk at which a job is run: a glyph shelf, the tray and the work area.
 
-ghost use Rattle.std.specs.Prelude.{◌≡◌, [], ◌∷◌, IfOk, IfErr, OnOk, OnErr, option_map};
-ghost use Rattle.job.specs.Commands.{command_at};
+ghost use Rattle.std.specs.Prelude.{◌≡◌, [], ◌∷◌, IfOk, IfErr, OnOk, OnErr};
+ghost use Rattle.job.specs.Commands.{seen, command_at};
 ghost use Rattle.job.specs.Runs.{nothing_yet, has_room as has_room_on, fits as fits_on};
 ghost use Rattle.job.specs.Lines.{told_in};
 ghost use Rattle.shelf.specs.Contents.{kind_of};
@@ -65,7 +65,7 @@ impl Desk {
 
     // The command at the front of some bytes, with the bytes after it, unless it cannot be read or done.
     pub(crate) fn next<'a>(&self, bytes: &'a [u8]) -> Option<(Command, &'a [u8])>
-        ensures { option_map (λ read. (read.0, read.1.now)) result ≡ doable self.now.tray.items (command_at bytes.now) }
+        ensures { seen result ≡ doable self.now.tray.items (command_at bytes.now) }
     {
         Command::read(bytes).filter(|(command, _)| self.fits(*command))
     }
