@@ -1,4 +1,4 @@
-// Failures and what they print.
+//! Failures and what they print.
 
 ghost use Rattle.std.specs.Prelude.{◌≡◌};
 ghost use Rattle.std.specs.Process.{exit_status};
@@ -9,18 +9,19 @@ use std::alloc::AllocError;
 use std::process::ExitCode;
 use std::{fmt, io};
 
+/// Why a program gives up. It prints as its sentence, and where a stream failed with what the system said after a colon.
 #[derive(Drop)]
 pub enum Failure {
-    // The input could not be read: of a program, standard input.
+    /// The input could not be read: of a program, standard input.
     Read(io::Error),
-    // There was too little memory.
+    /// There was too little memory.
     Memory,
-    // The output took no more: of a program, standard output.
+    /// The output took no more: of a program, standard output.
     Write(io::Error),
 }
 
 impl Failure {
-    // What failed of a program, in words of our own.
+    /// What failed of a program, in words of our own, as `there is too little memory`.
     pub fn sentence(&self) -> &'static str
         ensures { result.now ≡ sentence_of self.now }
     {
@@ -52,8 +53,8 @@ impl fmt::Display for Failure {
     }
 }
 
-// Ends a program: says on standard error what failed, and gives the status that tells whether anything did. Only
-// the status is promised, since the library promises nothing of what is printed.
+/// Ends a program: says on standard error what failed, and gives the status that tells whether anything did, 0 or 1.
+/// Only the status is promised, since the library promises nothing of what is printed.
 pub fn exit_code<R: Eprint>(rt: &R, program: &str, outcome: Result<(), Failure>) -> ExitCode
     ensures { exit_status result ≡ status_of outcome }
 {

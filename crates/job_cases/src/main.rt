@@ -1,6 +1,6 @@
-// Runs jobs, and compares what they print with the printouts that the data files hold. A job has files of its
-// own, or is a line of a text. The last line says how many agree; where one does not, it is named, and the
-// program fails too.
+//! Runs jobs, and compares what they print with the printouts that the data files hold. A job has files of its
+//! own, or is a line of a text. The last line says how many agree; where one does not, it is named, and the
+//! program fails too.
 #![tactic(auto)]
 
 mod spelled;

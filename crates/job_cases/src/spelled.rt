@@ -1,5 +1,5 @@
-// A small job as a line spells it: `43 00 05 54 58 = T 1 / job stopped at 4`, its bytes in base 16 and the lines
-// of its printout.
+//! A small job as a line spells it: `43 00 05 54 58 = T 1 / job stopped at 4`, its bytes in base 16 and the lines
+//! of its printout.
 
 use std::alloc::{AllocError, Global};
 

@@ -1,5 +1,5 @@
-// What no clause says: how far an input is read, that calls succeed, and that a stream which fails half-way is
-// reported.
+//! What no clause says: how far an input is read, that calls succeed, that a stream which fails half-way is reported,
+//! and that an interrupted call is tried again.
 use super::run_through;
 use failures::Failure;
 use std::io::{self, Cursor, ErrorKind, Read, Write};
@@ -40,6 +40,29 @@ impl Write for Narrow {
         let count = buf.len().min(self.room);
         self.taken.extend_from_slice(&buf[..count])?;
         self.room -= count;
+        Ok(count)
+    }
+
+    fn flush(&mut self) -> io::Result<()> {
+        Ok(())
+    }
+}
+
+// Takes one byte with every second call, and is interrupted with the others.
+#[derive(Drop)]
+struct Interrupted {
+    taken: Vec<u8>,
+    ready: bool,
+}
+
+impl Write for Interrupted {
+    fn write(&mut self, buf: &[u8]) -> io::Result<usize> {
+        self.ready = !self.ready;
+        if self.ready {
+            return Err(ErrorKind::Interrupted.into());
+        }
+        let count = buf.len().min(1);
+        self.taken.extend_from_slice(&buf[..count])?;
         Ok(count)
     }
 
@@ -95,4 +118,26 @@ fn what_was_written_before_stays(rt: HostRuntime) {
     let outcome = run_through(rt.alloc(), b"TT".as_slice(), &mut output);
     assert!(rt; matches!(outcome, Err(Failure::Write(_))));
     assert_eq!(rt; output.taken.as_slice(), b"T 0\nT ".as_slice());
+}
+
+#[test]
+fn an_interrupted_call_is_tried_again(rt: HostRuntime) {
+    let mut output = Interrupted {
+        taken: Vec::new(rt.alloc()),
+        ready: false,
+    };
+    let outcome = run_through(rt.alloc(), b"TT".as_slice(), &mut output);
+    assert!(rt; outcome.is_ok());
+    assert_eq!(rt; output.taken.as_slice(), b"T 0\nT 0\n".as_slice());
+}
+
+#[test]
+fn an_output_that_takes_no_byte_fails(rt: HostRuntime) {
+    let mut space = [0u8; 6];
+    let mut output = space.as_mut_slice();
+    let outcome = run_through(rt.alloc(), b"TT".as_slice(), &mut output);
+    assert!(rt;
+        matches!(outcome, Err(Failure::Write(error)) if error.kind() == ErrorKind::WriteZero)
+    );
+    assert_eq!(rt; space.as_slice(), b"T 0\nT ".as_slice());
 }

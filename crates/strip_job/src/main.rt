@@ -1,4 +1,4 @@
-// Runs a job: reads it from standard input, and prints what its commands answer.
+//! Runs a job: reads it from standard input, and prints what its commands answer.
 #![tactic(auto)]
 
 use failures::exit_code;

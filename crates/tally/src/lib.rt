@@ -1,4 +1,4 @@
-// Tallies: how many cases were run, and how many of them agree with what is expected.
+//! Tallies: how many cases were run, and how many of them agree with what is expected.
 #![tactic(auto)]
 
 ghost use Rattle.std.specs.Prelude.{◌≡◌, Some, ◌==◌};
@@ -6,20 +6,24 @@ ghost use Rattle.tally.specs.Tallies.{none_yet, counted, together, tally_text};
 
 use std::fmt;
 
+/// A tally. It prints as `3 of 4 agree`. A count that a `usize` cannot hold stays at the greatest that it can.
 #[derive(Clone, Copy, Default)]
 pub struct Tally {
+    /// How many cases were run.
     pub run: usize,
+    /// How many of them agree.
     pub agree: usize,
 }
 
 impl Tally {
+    /// No case yet.
     pub fn new() -> Self
         ensures { result ≡ none_yet }
     {
         Self::default()
     }
 
-    // One case more.
+    /// One case more.
     pub fn count(&mut self, agrees: bool)
         ensures { self.new ≡ counted self.old agrees }
     {
@@ -29,7 +33,7 @@ impl Tally {
         }
     }
 
-    // The cases of another tally too.
+    /// The cases of another tally too.
     pub fn add(&mut self, other: Tally)
         ensures { self.new ≡ together self.old other }
     {
@@ -37,7 +41,7 @@ impl Tally {
         self.agree = self.agree.saturating_add(other.agree);
     }
 
-    // Whether every case that was run agrees.
+    /// Whether every case that was run agrees.
     pub fn all_agree(self) -> bool
         ensures { result ≡ (self.agree == self.run) }
     {

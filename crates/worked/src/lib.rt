@@ -1,6 +1,6 @@
-// Worked examples: small cases, worked out by hand, of what the definitions that the contracts of the
-// code cite come to. They stand in one table, a file of `specs/` for each subject, with those of jobs beside it,
-// and are shown here.
+//! Worked examples: small cases, worked out by hand, of what the definitions that the contracts of the
+//! code cite come to. They stand in one table, a file of `specs/` for each subject, with those of jobs beside it,
+//! and are shown here.
 #![tactic(auto)]
 
 ghost use Rattle.std.specs.Prelude.{◌≡◌, length};
@@ -23,7 +23,7 @@ const PERIODS: usize = 14;
 // .. of the rows and rounds of a shelf.
 const SHELF: usize = 13;
 
-// Every example of the table holds, and so many there are.
+/// Every example of the table holds, and so many there are.
 pub fn worked_examples() -> usize
     ensures hold { AllHold worked_table }
     ensures counted { result ≡ length worked_table }
@@ -34,7 +34,7 @@ pub fn worked_examples() -> usize
 // How many examples there are of jobs.
 const JOBS: usize = 5;
 
-// Every example of jobs holds, and so many there are.
+/// Every example of jobs holds, and so many there are.
 pub fn worked_jobs() -> usize
     ensures hold { AllHold jobs_examples }
     ensures counted { result ≡ length jobs_examples }

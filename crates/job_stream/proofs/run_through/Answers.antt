@@ -1,5 +1,5 @@
 -- A failed write leaves a beginning of what the job prints.
-use Rattle.std.proofs.Common.{◌≡◌, IfSome, take, ◌∙◌, ap, rules, arith}
+use Rattle.std.proofs.Common.{◌≡◌, IfSome, take, ◌∙◌, ap, arith}
 use Rattle.std.proofs.lemmas.Grind.{common_steps}
 use Rattle.job.specs.Lines.{printed_by}
 use Rattle.job_stream.proofs.Writing.{failed_write}
