@@ -1,6 +1,6 @@
 // Sending: a list of takes, joins and cuts, each working on what the earlier ones left.
-ghost use Rattle.std.specs.Prelude.{◌≡◌, [], min, map, length, take, replicate, ◌==◌};
-ghost use Rattle.book.specs.Calls.{turn};
+ghost use Rattle.std.specs.Prelude.{◌≡◌, min, map, length, take, replicate, ◌==◌};
+ghost use Rattle.book.specs.Calls.{no_rows, turn};
 ghost use Rattle.book.specs.Runs.{book_after, answers_of};
 ghost use Rattle.cells.specs.Giving.{given_by};
 ghost use Rattle.shelf.specs.Contents.{book_of, kind_of};
@@ -70,10 +70,10 @@ impl Shelf {
         count
     }
 
-    // A new shelf, told by its rows and its kind alone: with more to choose from, the checker does not find by itself
-    // what `begin` promises.
+    // A new shelf as the book tells it: with more to choose from, the checker does not find by itself what `begin`
+    // promises.
     fn fresh<K: CellKind>() -> Shelf
-        ensures rows { rows_on result ≡ [] }
+        ensures book { book_of result ≡ no_rows }
         ensures kind { kind_of result ≡ K.NUMBER }
     {
         Shelf::new::<K>()
