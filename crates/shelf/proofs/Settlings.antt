@@ -9,23 +9,38 @@ use Rattle.std.specs.List.{AllZip}
 use Rattle.book.specs.Calls.{numbered, refused, Book, with_rows, Turn, refusing, Filing, unfiled, settling, filing, in_book}
 use Rattle.book.specs.Laws.{OfKind, Stays, WritesCells, PartsKeep}
 use Rattle.rows.specs.declared.Row.{Row}
-use Rattle.rows.specs.Rounds.{Settled, then, rounds_from, leaf_block, leaves, enough_rounds, settle}
+use Rattle.rows.specs.Rounds.{Settled, number_left, then, rounds_from, leaf_block, leaves, enough_rounds, settle}
 use Rattle.rows.specs.Strips.{strip}
 use Rattle.rows.proofs.NamingFacts.{length_named, file_all_grows}
-use Rattle.recompression.specs.declared.table.settle.Reached.{Reached}
-use Rattle.recompression.specs.declared.table.settle.Unsettled.{Unsettled}
-use Rattle.recompression.specs.declared.table.settle.Unsettled.TheVariants.{TooLong}
-use Rattle.recompression.specs.Settlements.{all_rounds, settlement, settlement_of}
+use Rattle.recompression.specs.Settlements.{all_rounds}
 use Rattle.shelf.specs.declared.refusal.Refusal.{Refusal}
-use Rattle.shelf.specs.declared.refusal.Refusal.TheVariants.{WorkAreaTooShort}
+use Rattle.shelf.specs.declared.refusal.Refusal.TheVariants.{OtherKind, TooLong, Unprintable, WorkAreaTooShort, ShelfFull, UnknownNumber, FragmentLeavesStrip}
 use Rattle.shelf.specs.Leaves.{LeavesFiled, SettlesAs, SettlesOrUndoes}
-use Rattle.shelf.specs.Refusals.{refusal_for, refusal_told, ComesTo, FilesAs, StaysWritten, Writes}
+use Rattle.shelf.specs.Refusals.{refusal_told, ComesTo, FilesAs, StaysWritten, Writes}
 use Rattle.shelf.specs.WritingOut.{WrittenBack, WritesBack}
 
--- an answer of the rounds as the shelf gives it
-abbrev pub for_shelf : Result Reached Unsettled → Result ℕ Refusal
-for_shelf (Ok reached) = Ok reached.number
-for_shelf (Err why) = Err (refusal_for why)
+-- the refusal that is told for want of rows
+full_told : (e : Refusal) → refusal_told e ≡ refused 5 → e ≡ ShelfFull
+full_told OtherKind is = let z : ◌≡◌ {A = ℕ} 1 5 = cc in absurd (omega arith)
+full_told TooLong is = let z : ◌≡◌ {A = ℕ} 2 5 = cc in absurd (omega arith)
+full_told (Unprintable place) is = let z : ◌≡◌ {A = ℕ} 0 1 = cc in absurd (omega arith)
+full_told WorkAreaTooShort is = let z : ◌≡◌ {A = ℕ} 4 5 = cc in absurd (omega arith)
+full_told ShelfFull is = refl
+full_told UnknownNumber is = let z : ◌≡◌ {A = ℕ} 6 5 = cc in absurd (omega arith)
+full_told FragmentLeavesStrip is = let z : ◌≡◌ {A = ℕ} 7 5 = cc in absurd (omega arith)
+
+-- a refusal is told as no number
+told_apart : (number n : ℕ) → refused number ≡ numbered n → ⊥
+told_apart number n is = let z : ◌≡◌ {A = ℕ} 0 1 = cc in omega arith
+
+refusal_apart : (e : Refusal) (n : ℕ) → refusal_told e ≡ numbered n → ⊥
+refusal_apart (Unprintable place) n is = let z : ◌≡◌ {A = ℕ} 0 1 = cc in omega arith
+refusal_apart OtherKind n is = told_apart 1 n is
+refusal_apart TooLong n is = told_apart 2 n is
+refusal_apart WorkAreaTooShort n is = told_apart 4 n is
+refusal_apart ShelfFull n is = told_apart 5 n is
+refusal_apart UnknownNumber n is = told_apart 6 n is
+refusal_apart FragmentLeavesStrip n is = told_apart 7 n is
 
 -- the rounds on the leaves of a strip are what the strip settles to
 pub settle_from_leaves : (old rows : List Row) (codes numbers : List ℕ) → leaves old codes ≡ Some (record { numbers = numbers; rows = rows }) → settle old codes ≡ all_rounds rows numbers
@@ -36,25 +51,22 @@ settle_from_leaves old rows codes numbers h =
     ap (λ o. then o (rounds_from (enough_rounds (length codes)) 0)) h ∙ ap (λ n. rounds_from (enough_rounds n) 0 (record { numbers = numbers; rows = rows })) many
 
 module _ (old rows : List Row) (codes numbers : List ℕ) (filed : leaves old codes ≡ Some (record { numbers = numbers; rows = rows })) (short : length numbers ≤ 65535) where
-  by_rounds : settlement rows numbers ≡ settlement_of rows (all_rounds rows numbers)
-  by_rounds = cond-false (ltb 65535 (length numbers)) (record { answer = Err TooLong; rows = rows }) (settlement_of rows (all_rounds rows numbers)) (le-ltb 65535 (length numbers) short)
-
   kept : take (length old) rows ≡ old
   kept =
       let grown = file_all_grows 0 (map leaf_block codes) old (record { numbers = numbers; rows = rows }) filed in
       ap (take (length old)) grown.grows ∙ take-append-le (length old) old grown.added (omega arith) ∙ take_all (length old) old (omega arith)
 
-  by_outcome : (o : Option Settled) → all_rounds rows numbers ≡ o → (r : Result Reached Unsettled) (after : List Row) → r ≡ (settlement_of rows o).answer → after ≡ (settlement_of rows o).rows → SettlesAs old codes (for_shelf r) after
-  by_outcome None is r after answer left =
-      subst (λ x. SettlesAs old codes (for_shelf x) after) (sym answer)
-      (refl, settle_from_leaves old rows codes numbers filed ∙ is, ap (take (length old)) left ∙ kept)
-  by_outcome (Some s) is r after answer left =
-      subst (λ x. SettlesAs old codes (for_shelf x) after) (sym answer)
-      (s, settle_from_leaves old rows codes numbers filed ∙ is, refl, left)
+  by_outcome : (o : Option Settled) → all_rounds rows numbers ≡ o → (r : Result ℕ Refusal) (after : List Row) → FilesAs r after (settling rows o) → SettlesAs old codes r after
+  by_outcome None is (Ok n) after files = absurd (told_apart 5 n (sym files.0))
+  by_outcome None is (Err e) after files =
+      (full_told e files.0, settle_from_leaves old rows codes numbers filed ∙ is, ap (take (length old)) files.1 ∙ kept)
+  by_outcome (Some s) is (Ok n) after files =
+      let same : n ≡ number_left s.numbers = let e = files.0 in cc in
+      (s, settle_from_leaves old rows codes numbers filed ∙ is, same, files.1)
+  by_outcome (Some s) is (Err e) after files = absurd (refusal_apart e (number_left s.numbers) files.0)
 
-  pub settled_after : (r : Result Reached Unsettled) (after : List Row) → r ≡ (settlement rows numbers).answer → after ≡ (settlement rows numbers).rows → SettlesAs old codes (for_shelf r) after
-  settled_after r after answer left =
-      by_outcome (all_rounds rows numbers) refl r after (answer ∙ ap (λ t. t.answer) by_rounds) (left ∙ ap (λ t. t.rows) by_rounds)
+  pub settled_after : (r : Result ℕ Refusal) (after : List Row) → FilesAs r after (settling rows (all_rounds rows numbers)) → SettlesAs old codes r after
+  settled_after r after files = by_outcome (all_rounds rows numbers) refl r after files
 
 -- leaves that need a row 1,025
 pub leaves_full : (old after : List Row) (codes numbers : List ℕ) (e : Refusal) → LeavesFiled {A = Unit {0}} old codes (Err e) after numbers → SettlesAs old codes (Err e) after

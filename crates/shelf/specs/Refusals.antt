@@ -3,8 +3,6 @@ use Rattle.std.specs.Prelude.{◌≡◌, ℕ, ◌<◌, ◌≤◌, List, ◌++◌
 use Rattle.book.specs.Calls.{Answer, numbered, refused, refused_at, Book, Turn, Filing}
 use Rattle.book.specs.Laws.{KindKept}
 use Rattle.cells.specs.Printing.{first_unprintable}
-use Rattle.recompression.specs.declared.table.settle.Unsettled.{Unsettled}
-use Rattle.recompression.specs.declared.table.settle.Unsettled.TheVariants as unsettled
 use Rattle.rows.specs.declared.Row.{Row}
 use Rattle.rows.specs.Strips.{strip}
 use Rattle.shelf.specs.declared.refusal.Refusal.{Refusal}
@@ -30,11 +28,6 @@ refusal_sentence ShelfFull = ascii "the shelf has no row left"
 refusal_sentence UnknownNumber = ascii "the number is unknown"
 refusal_sentence FragmentLeavesStrip = ascii "a fragment leaves the strip"
 
--- the refusal of a strip whose string of numbers does not settle
-abbrev pub refusal_for : Unsettled → Refusal
-refusal_for unsettled.TooLong = TooLong
-refusal_for unsettled.Full = ShelfFull
-
 -- why cells are refused before any is filed: there are over 65,535, or one is not printable, with the place
 -- of the first
 abbrev pub Unfit : {C : Type 0} → (C → Option ℕ) → List C → Refusal → Type 0
@@ -44,13 +37,8 @@ Unfit coded cells _ = ⊥
 
 -- a refusal as the book tells it: its number, and of an unprintable cell also its place
 abbrev pub refusal_told : Refusal → Answer
-refusal_told OtherKind = refused 1
-refusal_told TooLong = refused 2
-refusal_told (Unprintable place) = refused_at 3 place
-refusal_told WorkAreaTooShort = refused 4
-refusal_told ShelfFull = refused 5
-refusal_told UnknownNumber = refused 6
-refusal_told FragmentLeavesStrip = refused 7
+refusal_told (Unprintable place) = refused_at (refusal_number (Unprintable place)) place
+refusal_told refusal = refused (refusal_number refusal)
 
 -- the answer that a call's result stands for
 abbrev pub told : Result ℕ Refusal → Answer

@@ -1,4 +1,4 @@
-// Leaf numbers of strips, written into a work area and settled there: what joining and cutting share.
+//! Leaf numbers of strips, written into a work area and settled there: what taking, joining and cutting share.
 ghost use Rattle.std.specs.Prelude.{◌≡◌, ◌+◌, ◌≤◌, length};
 ghost use Rattle.book.specs.Calls.{settling};
 ghost use Rattle.recompression.specs.Contents.{rows_in};
@@ -15,7 +15,11 @@ pub(crate) fn settle_leaves(table: &mut Table, numbers: &mut [u16]) -> Result<u1
     requires { length numbers.old ≤ 65535 }
     ensures { FilesAs result (rows_in table.new) (settling (rows_in table.old) (all_rounds (rows_in table.old) numbers.old)) }
 {
-    Ok(table.settle(numbers)?.number)
+    match table.settle(numbers) {
+        Ok(reached) => Ok(reached.number),
+        // So short a string is refused for want of rows alone.
+        Err(_) => Err(Refusal::ShelfFull),
+    }
 }
 
 // Writes the leaf numbers of a part of a strip that is known to have it.

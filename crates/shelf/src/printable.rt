@@ -6,6 +6,7 @@ ghost use Rattle.recompression.specs.Contents.{rows_in};
 ghost use Rattle.shelf.specs.Leaves.{LeavesFiled, SettlesAs, SettlesOrUndoes};
 ghost use Rattle.shelf.specs.Refusals.{FilesAs, Unfit};
 
+use crate::leaves::settle_leaves;
 use crate::refusal::Refusal;
 use cells::{CellKind, first_unprintable};
 use recompression::Table;
@@ -58,7 +59,7 @@ impl<'a, K: CellKind> Printable<'a, K> {
         ensures { SettlesAs (rows_in table.old) (printed K.coded self.now.cells.now) result (rows_in table.new) }
     {
         self.file_leaves(table, numbers)?;
-        Ok(table.settle(numbers)?.number)
+        settle_leaves(table, numbers)
     }
 
     // The number of the strip, which gets its rows. A refusal leaves the rows as they were. A method of the table that

@@ -1,9 +1,8 @@
 // Why a call on a shelf is refused.
 
 ghost use Rattle.std.specs.Prelude.{◌≡◌, Some};
-ghost use Rattle.shelf.specs.Refusals.{refusal_number, refusal_sentence, refusal_for};
+ghost use Rattle.shelf.specs.Refusals.{refusal_number, refusal_sentence};
 
-use recompression::Unsettled;
 use std::fmt;
 
 #[derive(Clone, Copy, PartialEq, Eq, Debug)]
@@ -55,18 +54,6 @@ impl fmt::Display for Refusal {
             Refusal::ShelfFull => f.write_str("the shelf has no row left"),
             Refusal::UnknownNumber => f.write_str("the number is unknown"),
             Refusal::FragmentLeavesStrip => f.write_str("a fragment leaves the strip"),
-        }
-    }
-}
-
-// What a string of numbers is refused for, the shelf refuses its strip for.
-impl From<Unsettled> for Refusal {
-    ghost from_gives = { λ why refusal. refusal ≡ refusal_for why };
-
-    fn from(why: Unsettled) -> Refusal {
-        match why {
-            Unsettled::TooLong => Refusal::TooLong,
-            Unsettled::Full => Refusal::ShelfFull,
         }
     }
 }
