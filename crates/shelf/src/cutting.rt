@@ -1,4 +1,4 @@
-// Cutting: the number that a part of a strip comes to.
+//! Cutting: the number that a part of a strip comes to.
 ghost use Rattle.std.specs.Prelude.{◌≡◌, length, replicate};
 ghost use Rattle.book.specs.Laws.{KindKept};
 ghost use Rattle.book.specs.Calls.{cut_out, part_of};
@@ -31,7 +31,10 @@ impl Shelf {
         settle_leaves(&mut self.table, numbers)
     }
 
-    // The number that a part of a number's strip comes to by the rounds. It writes that part, now and later.
+    /// The number that a part of a number's strip comes to by the rounds. It writes that part, now and later. The work area
+    /// needs a place for each cell of the part.
+    ///
+    /// Refused, in this sequence, by `UnknownNumber`, `FragmentLeavesStrip`, `WorkAreaTooShort`, `ShelfFull`.
     pub fn cut(&mut self, number: u16, part: Fragment, work: &mut [u16]) -> Result<u16, Refusal>
         ensures outcome { ComesTo result (book_of self.new) (cut_out (book_of self.old) number part.start part.length (length work.old)) }
         ensures kept { KindKept (rows_on self.old) (rows_on self.new) }

@@ -1,4 +1,4 @@
-// Joining: the number that two strips, one after the other, come to.
+//! Joining: the number that two strips, one after the other, come to.
 ghost use Rattle.std.specs.Prelude.{◌≡◌, ◌+◌, ◌≤◌, ◌++◌, length, replicate};
 ghost use Rattle.book.specs.Laws.{KindKept};
 ghost use Rattle.book.specs.Calls.{joined_up};
@@ -57,8 +57,10 @@ impl Shelf {
         settle_leaves(&mut self.table, numbers)
     }
 
-    // The number that the strips of two numbers, one after the other, come to by the rounds. It writes these,
-    // now and later.
+    /// The number that the strips of two numbers, one after the other, come to by the rounds. It writes these, now and
+    /// later. The work area needs a place for each cell of both.
+    ///
+    /// Refused, in this sequence, by `UnknownNumber`, `TooLong`, `WorkAreaTooShort`, `ShelfFull`.
     pub fn join(&mut self, left: u16, right: u16, work: &mut [u16]) -> Result<u16, Refusal>
         ensures outcome { ComesTo result (book_of self.new) (joined_up (book_of self.old) left right (length work.old)) }
         ensures kept { KindKept (rows_on self.old) (rows_on self.new) }

@@ -23,8 +23,11 @@ pub use request::{Answer, Request, Sent};
 
 /// Rows in use that keep what every shelf promises, and the number of their kind of cell.
 ///
-/// Calls that take or give cells say of which kind they are; the shelf knows the kind by its number alone, as the file
-/// of a shelf does.
+/// Calls that take or give cells say of which kind they are; the shelf knows the kind by its number alone.
+///
+/// The law of one strip and one number is a clause of `send` and `begin`, which take lists of requests. A caller who sends
+/// single takes, joins and cuts has it too: each leaves the shelf as one more call leaves the plain book (its clause
+/// `outcome`), and the book's law (`law_of_the_book`) is about any list of calls.
 #[derive(Drop)]
 pub struct Shelf {
     table: Table,

@@ -1,4 +1,4 @@
-// Printable cells, few enough for a strip, and how they are filed on a table.
+//! Printable cells, few enough for a strip, and how they are filed on a table.
 ghost use Rattle.std.specs.Prelude.{◌≡◌, ◌≤◌, length, None, IfOk, IfErr};
 ghost use Rattle.book.specs.Calls.{printed, filing};
 ghost use Rattle.cells.specs.Printing.{first_unprintable};

@@ -1,30 +1,32 @@
-// Why a call on a shelf is refused.
+//! Why a call on a shelf is refused.
 
 ghost use Rattle.std.specs.Prelude.{◌≡◌, Some};
 ghost use Rattle.shelf.specs.Refusals.{refusal_number, refusal_sentence};
 
 use std::fmt;
 
+/// Why a call on a shelf is refused. A refused call leaves the rows and the caller's lists as they were, and the work area
+/// all zeros. It prints as a sentence.
 #[derive(Clone, Copy, PartialEq, Eq, Debug)]
 pub enum Refusal {
-    // The shelf has another kind number.
+    /// The shelf has another kind number: taking and writing out.
     OtherKind,
-    // The strip would have over 65,535 cells.
+    /// The strip would have over 65,535 cells: taking and joining.
     TooLong,
-    // A cell is not printable; the place is that of the first.
+    /// A cell is not printable; the place, counted from 0, is that of the first: taking.
     Unprintable { place: usize },
-    // The work area has fewer places than the strip has cells.
+    /// The work area has fewer places than the strip that the call would write has cells: taking, joining and cutting.
     WorkAreaTooShort,
-    // A row 1,025 would be needed.
+    /// A row 1,025 would be needed: taking, joining and cutting. A full shelf still answers where it has all rows.
     ShelfFull,
-    // A number is not known.
+    /// A number is above the count of rows in use: joining, cutting and writing out. Number 0 is always known.
     UnknownNumber,
-    // The part leaves the strip.
+    /// The part leaves the strip: cutting and writing out.
     FragmentLeavesStrip,
 }
 
 impl Refusal {
-    // The number by which users know the refusal.
+    /// The number by which users know the refusal.
     pub fn number(self) -> u8
         ensures { result ≡ refusal_number self }
     {

@@ -1,4 +1,4 @@
-// Sending: a list of takes, joins and cuts, each working on what the earlier ones left.
+//! Sending: a list of takes, joins and cuts, each working on what the earlier ones left.
 ghost use Rattle.std.specs.Prelude.{◌≡◌, min, map, length, take, replicate, ◌==◌};
 ghost use Rattle.book.specs.Calls.{no_rows, turn};
 ghost use Rattle.book.specs.Runs.{book_after, answers_of};
@@ -28,8 +28,7 @@ impl Shelf {
         }
     }
 
-    // As many requests as there are places for answers. Two lists of the caller's, as the rules have them: the answers
-    // go in sequence into the second.
+    // As many requests as there are places for answers, which go in sequence into the caller's list.
     fn send_all<K: CellKind>(
         &mut self,
         requests: &[Sent<K>],
@@ -48,10 +47,12 @@ impl Shelf {
         }
     }
 
-    // Performs the requests in the sequence given, as many as there are places for their answers, and
-    // says how many: each as if it had been called with its number of work places, at most those there are.
-    // Any two that are answered by numbers have equal numbers exactly when the strips that they wrote are
-    // the same, cell for cell; and so have any two calls of the whole history of a shelf, these requests included.
+    /// Performs the requests in the sequence given, as many as there are places for their answers, and says how many:
+    /// each as if it had been called with its number of work places, at most those there are. A request that is refused
+    /// leaves the shelf as it stood, and the next is performed.
+    ///
+    /// Any two that are answered by numbers have equal numbers exactly when the strips that they wrote are the same, cell
+    /// for cell; and so have any two calls of the whole history of a shelf, these requests included.
     pub fn send<K: CellKind>(
         &mut self,
         requests: &[Sent<K>],
@@ -79,7 +80,7 @@ impl Shelf {
         Shelf::new::<K>()
     }
 
-    // A new shelf of a kind and the requests sent to it, told by a book that is fed the requests alone.
+    /// A new shelf of a kind and the requests sent to it as by `send`, told by a book that is fed the requests alone.
     #[tactic(auto, using(crate::proofs::Beginning::begun))]
     pub fn begin<K: CellKind>(
         requests: &[Sent<K>],

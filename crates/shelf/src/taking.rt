@@ -1,4 +1,4 @@
-// Taking: the number that given cells come to.
+//! Taking: the number that given cells come to.
 ghost use Rattle.std.specs.Prelude.{◌≡◌, length, replicate, ◌==◌};
 ghost use Rattle.book.specs.Calls.{taken};
 ghost use Rattle.book.specs.Laws.{OfKind};
@@ -36,8 +36,10 @@ impl Shelf {
         Printable::of(cells)?.file(&mut self.table, work)
     }
 
-    // The number that the cells come to by the rounds. What is written out for that number, now or later,
-    // has the same cells.
+    /// The number that the cells come to by the rounds: 0 for no cells. What is written out for that number, now or later,
+    /// has the same cells. The work area needs a place for each cell.
+    ///
+    /// Refused, in this sequence, by `OtherKind`, `TooLong`, `Unprintable`, `WorkAreaTooShort`, `ShelfFull`.
     pub fn take<K: CellKind>(&mut self, cells: &[K], work: &mut [u16]) -> Result<u16, Refusal>
         ensures outcome { ComesTo result (book_of self.new) (taken (kind_of self.old == K.NUMBER) K.coded (book_of self.old) cells.now (length work.old)) }
         ensures kind { kind_of self.new ≡ kind_of self.old }

@@ -1,5 +1,5 @@
-// The work area of a call: it is all zeros again at the end of the call, however it ends. Each call promises that of
-// its own slice.
+//! The work area of a call: it is all zeros again at the end of the call, however it ends. Each call promises that of
+//! its own slice.
 ghost use Rattle.std.specs.Prelude.{◌≡◌, length, replicate};
 
 // Holds the work area while a call works, and zeroes it when the call is over.

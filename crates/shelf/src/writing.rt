@@ -1,4 +1,4 @@
-// Writing out: the cells of a part of a number's strip.
+//! Writing out: the cells of a part of a number's strip.
 ghost use Rattle.std.specs.Prelude.{◌≡◌, ◌+◌, ◌≤◌, map, length, ◌==◌};
 ghost use Rattle.book.specs.Calls.{part_of};
 ghost use Rattle.rows.specs.Strips.{strip};
@@ -23,8 +23,10 @@ impl Shelf {
         }
     }
 
-    // Fills the list with the cells of a number's strip from `start` on. A refusal leaves the list as it
-    // was.
+    /// Fills the list with the cells of a number's strip from place `start` on, as many as it has places. A refusal leaves
+    /// the list as it was.
+    ///
+    /// Refused, in this sequence, by `OtherKind`, `UnknownNumber`, `FragmentLeavesStrip`.
     pub fn write_out<K: CellKind>(
         &self,
         number: u16,
