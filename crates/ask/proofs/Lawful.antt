@@ -1,10 +1,11 @@
 -- That what questions come to keeps their laws, and so does what is printed of it. Assumes nothing.
-use Rattle.std.proofs.Common.{◌≡◌, ℕ, zero, suc, ◌+◌, ◌*◌, ◌≤◌, Bool, true, false, cond, ◌&&◌, leb, eqb, List, [], ◌∷◌, ◌++◌, length, take, Some, None, Option, codes as ascii, sym, refl, ap, subst, arith, length-take}
+use Rattle.std.proofs.Common.{◌≡◌, ℕ, zero, suc, ◌+◌, ◌*◌, ◌≤◌, Bool, true, false, cond, ◌&&◌, leb, eqb, List, [], ◌∷◌, ◌++◌, length, take, take_all, Some, None, Option, codes as ascii, sym, refl, ap, subst, arith, length-take}
 use Rattle.std.specs.Prelude.{Ok, Err, Result}
 use lib.ListN.{length-reverse}
 use Rattle.std.proofs.lemmas.Option.{none-some}
 use Rattle.std.proofs.lemmas.Bool.{and_parts, leb-true, leb-false, eqb-false}
 use Rattle.periodicity.specs.declared.Fragment.{Fragment}
+use Rattle.periodicity.specs.declared.Progression.{Progression}
 use Rattle.periodicity.specs.Fragments.{cut, inside}
 use Rattle.periodicity.specs.Overlaps.{overlaps_of, OverlapsNamed}
 use Rattle.periodicity.specs.Periods.{written_records, PeriodsNamed}
@@ -77,6 +78,10 @@ periods_lawful xs fragment short unchecked =
     some : (n m : ℕ) → m ≡ n → (n ≡ 0 → ⊥) → 1 ≤ m
     some zero m same positive = absurd (positive refl)
     some (suc n) m same positive = omega arith
+
+-- where no more records than 17 are there, the first 17 are all of them
+pub all_named : (xs : List ℕ) (records : List Progression) → length records ≡ 17 → PeriodsNamed xs (take 17 records) → PeriodsNamed xs records
+all_named xs records many named = subst (λ rs. PeriodsNamed xs rs) (take_all 17 records (omega arith)) named
 
 -- some answer says what a question comes to, and keeps the question's law
 pub answered_lawfully : (question : Question) (xs : List ℕ) → length xs ≤ 65535 → (answer : Answer) × AnswerLaw question xs answer × (reply_of answer ≡ reply_to question xs)

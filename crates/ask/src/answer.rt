@@ -39,6 +39,7 @@ pub trait Asking {
 }
 
 // The records of a fragment's periods.
+#[tactic(auto, using(crate::proofs::Lawful::all_named))]
 fn periods_of<K: Keeper>(keeper: &K, fragment: Fragment) -> Result<[Progression; RECORDS], Refusal>
     ensures value { outcome result ≡ records_outcome (K.codes keeper.now) fragment }
     ensures law { RecordsLaw (K.codes keeper.now) fragment result }
