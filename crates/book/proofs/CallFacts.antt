@@ -14,8 +14,8 @@ use Rattle.rows.specs.Strips.{strip}
 use Rattle.rows.proofs.OneNumber.{Stands, settled_stands, stands_append}
 use Rattle.rows.proofs.SettleFacts.{settles}
 use Rattle.rows.proofs.ShapeFacts.{settle_shapes}
-use Rattle.book.specs.Calls.{Answer, numbered, refused, refused_at, Book, Turn, refusing, Filing, unfiled, settling, filing, filed_in, printed, printing, taken, is_known, joined_up, part_of, cut_out}
-use Rattle.book.specs.Laws.{leaf_of_kind, OfKind, RowsKept, Stays}
+use Rattle.book.specs.Calls.{Answer, strip_number, refused, refused_at, Book, Turn, refusing, Filing, unfiled, settling, filing, filed_in, printed, printing, taken, is_known, joined_up, part_of, cut_out}
+use Rattle.book.specs.Laws.{leaf_of_kind, OfKind, LawfullyGrown, Stays}
 use Rattle.book.proofs.CodeFacts.{KindLaws, HasAll, has_take, has_drop, strip_has, has_codes, printed_codes}
 
 -- a strip that is filed: what holds of the refusal for want of places and of what the rounds come to holds of it
@@ -28,23 +28,23 @@ filing_by rows codes places P short enough =
     ]
 
 -- a refusal answers no number
-refused_apart : (number n : ℕ) → refused number ≡ numbered n → ⊥
+refused_apart : (number n : ℕ) → refused number ≡ strip_number n → ⊥
 refused_apart number n is = let z : ◌≡◌ {A = ℕ} 0 1 = cc in omega arith
 
-refused_at_apart : (number place n : ℕ) → refused_at number place ≡ numbered n → ⊥
+refused_at_apart : (number place n : ℕ) → refused_at number place ≡ strip_number n → ⊥
 refused_at_apart number place n is = let z : ◌≡◌ {A = ℕ} 0 1 = cc in omega arith
 
 -- what a call keeps of lawful rows: they stay lawful, and only grow; and the strip of a number that was answered stands
 -- under it
 pub record Keeps (rows : List Row) (codes : List ℕ) (answer : Answer) (after : List Row) : Type 0 where
-  pub kept : RowsKept rows after
-  pub stands : (n : ℕ) → answer ≡ numbered n → Stands after codes n
+  pub kept : LawfullyGrown rows after
+  pub stands : (n : ℕ) → answer ≡ strip_number n → Stands after codes n
 
 abbrev TurnKeeps : List Row → List ℕ → Turn → Type 0
 TurnKeeps rows codes t = Keeps rows codes t.answer t.book.rows
 
 module _ (rows : List Row) (law : Lawful rows) where
-  unanswered : (codes : List ℕ) (answer : Answer) → ((n : ℕ) → answer ≡ numbered n → ⊥) → Keeps rows codes answer rows
+  unanswered : (codes : List ℕ) (answer : Answer) → ((n : ℕ) → answer ≡ strip_number n → ⊥) → Keeps rows codes answer rows
   unanswered codes answer none =
       record { kept = record { lawful = law; added = []; grows = sym (append-nil rows) }; stands = λ n is. absurd (none n is) }
 
@@ -107,7 +107,7 @@ module _ {C : Type 0} (coded : C → Option ℕ) (book : Book) (cells : List C) 
 
   -- a take: and if its number was answered, its cells are printable
   abbrev pub TakenKeeps : Turn → Type 0
-  TakenKeeps t = TurnKeeps book.rows (printed coded cells) t × ((n : ℕ) → t.answer ≡ numbered n → first_unprintable coded cells ≡ None)
+  TakenKeeps t = TurnKeeps book.rows (printed coded cells) t × ((n : ℕ) → t.answer ≡ strip_number n → first_unprintable coded cells ≡ None)
 
   pub taken_keeps : Lawful book.rows → (same_kind : Bool) → TakenKeeps (taken same_kind coded book cells places)
   taken_keeps law =

@@ -5,7 +5,7 @@ use Rattle.rows.specs.Lawful.{Lawful}
 use Rattle.rows.proofs.LawfulFacts.{lawful_none}
 use Rattle.rows.proofs.OneNumber.{Stands, stands_append, one_number}
 use Rattle.book.specs.Calls.{Book, turn, wrote}
-use Rattle.book.specs.Laws.{OfKind, Numbered, OneNumber, RowsKept, RunKeeps, RunsKeep, RunsGoOn, NewIsLawful}
+use Rattle.book.specs.Laws.{OfKind, AnsweredBy, OneNumber, LawfullyGrown, RunKeeps, RunsKeep, RunsGoOn, NewIsLawful}
 use Rattle.book.specs.Runs.{Sent, book_after, answers_of, strips_of}
 use Rattle.book.proofs.CodeFacts.{KindLaws, CodesOf, same_from_codes, codes_from_same}
 use Rattle.book.proofs.TurnFacts.{Told, turn_told}
@@ -13,9 +13,9 @@ use Rattle.book.proofs.TurnFacts.{Told, turn_told}
 module _ {C : Type 0} (same_kind : Bool) (coded : C → Option ℕ) (has : ℕ → Bool) (given : ℕ → C) (same : C → C → Type 0) (laws : KindLaws coded has given same) where
   -- what a list of calls leaves
   record Ran (book : Book) (sents : List (Sent C)) : Type 0 where
-    pub kept : RowsKept book.rows (book_after same_kind coded book sents).rows
+    pub kept : LawfullyGrown book.rows (book_after same_kind coded book sents).rows
     pub of_kind : OfKind has (book_after same_kind coded book sents).rows
-    pub tells : (i n : ℕ) → Numbered (answers_of same_kind coded book sents) i n
+    pub tells : (i n : ℕ) → AnsweredBy (answers_of same_kind coded book sents) i n
         → (codes : List ℕ) × Stands (book_after same_kind coded book sents).rows codes n × CodesOf coded (get_or (strips_of same_kind coded given book sents) i []) codes
 
   ran : (book : Book) → Lawful book.rows → OfKind has book.rows → (sents : List (Sent C)) → Ran book sents
@@ -39,7 +39,7 @@ module _ {C : Type 0} (same_kind : Bool) (coded : C → Option ℕ) (has : ℕ �
       }
     where
       at : Told coded has book.rows (wrote given book sent.call) (turn same_kind coded book sent.call sent.places) → Ran (turn same_kind coded book sent.call sent.places).book rest
-          → (i n : ℕ) → Numbered (answers_of same_kind coded book (sent ∷ rest)) i n
+          → (i n : ℕ) → AnsweredBy (answers_of same_kind coded book (sent ∷ rest)) i n
           → (codes : List ℕ) × Stands (book_after same_kind coded book (sent ∷ rest)).rows codes n × CodesOf coded (get_or (strips_of same_kind coded given book (sent ∷ rest)) i []) codes
       at told later zero n is =
           let here = told.tells n is in
@@ -68,11 +68,15 @@ runs_keep coded has given same laws same_kind start calls law kinds = run_keeps 
 
 -- a list of calls after another
 pub goes_on : {C : Type 0} (coded : C → Option ℕ) → RunsGoOn coded
-goes_on coded same_kind book [] sents = record { book = refl; answers = refl }
+goes_on coded same_kind book [] sents = record { book = refl; answers = refl; strips = λ given. refl }
 goes_on coded same_kind book (s ∷ past) sents =
     let t = turn same_kind coded book s.call s.places in
     let later = goes_on coded same_kind t.book past sents in
-    record { book = later.book; answers = ap (λ xs. t.answer ∷ xs) later.answers }
+    record {
+      book = later.book;
+      answers = ap (λ xs. t.answer ∷ xs) later.answers;
+      strips = λ given. ap (λ xs. wrote given book s.call ∷ xs) (later.strips given);
+    }
 
 -- a book with no rows
 pub new_is_lawful : NewIsLawful

@@ -7,8 +7,8 @@ use Rattle.rows.specs.declared.Row.{Row}
 use Rattle.rows.specs.Lawful.{Lawful}
 use Rattle.rows.specs.Strips.{strip}
 use Rattle.rows.proofs.OneNumber.{Stands, stands_append}
-use Rattle.book.specs.Calls.{Call, taking, joining, cutting, numbered, Book, Turn, printed, taken, joined_up, part_of, cut_out, turn, wrote}
-use Rattle.book.specs.Laws.{OfKind, RowsKept, TakesKeep, JoinsKeep, CutsKeep}
+use Rattle.book.specs.Calls.{Call, taking, joining, cutting, strip_number, Book, Turn, printed, taken, joined_up, part_of, cut_out, turn, wrote}
+use Rattle.book.specs.Laws.{OfKind, LawfullyGrown, TakesKeep, JoinsKeep, CutsKeep}
 use Rattle.book.proofs.CallFacts.{Keeps, taken_keeps, joined_keeps, cut_keeps, stays, both_have, part_has, joined_of_kind, cut_of_kind, taken_of_kind}
 use Rattle.book.proofs.CodeFacts.{KindLaws, CodesOf, HasAll, codes_given, has_codes, printed_codes, same_from_codes}
 
@@ -33,9 +33,9 @@ cuts_keep book n start size places law =
 
 -- what a call that writes these cells comes to
 pub record Told {C : Type 0} (coded : C → Option ℕ) (has : ℕ → Bool) (rows : List Row) (cells : List C) (t : Turn) : Type 0 where
-  pub kept : RowsKept rows t.book.rows
+  pub kept : LawfullyGrown rows t.book.rows
   pub of_kind : OfKind has t.book.rows
-  pub tells : (n : ℕ) → t.answer ≡ numbered n → (codes : List ℕ) × Stands t.book.rows codes n × CodesOf coded cells codes
+  pub tells : (n : ℕ) → t.answer ≡ strip_number n → (codes : List ℕ) × Stands t.book.rows codes n × CodesOf coded cells codes
 
 module _ {C : Type 0} (coded : C → Option ℕ) (has : ℕ → Bool) (given : ℕ → C) (same : C → C → Type 0) (laws : KindLaws coded has given same) where
   -- a take

@@ -14,7 +14,7 @@ pub data Call (C : Type 0) : Type 0 where
 
 -- what a call is answered: the number of a strip, or a refusal by its number; of an unprintable cell also its place
 pub data Answer : Type 0 where
-  numbered : ℕ → Answer
+  strip_number : ℕ → Answer
   refused : ℕ → Answer
   refused_at : ℕ → ℕ → Answer
 
@@ -51,7 +51,7 @@ unfiled rows answer = record { answer = answer; rows = rows }
 -- the rounds need a row 1,025, or come to a number
 abbrev pub settling : List Row → Option Settled → Filing
 settling rows None = unfiled rows (refused 5)
-settling rows (Some s) = record { answer = numbered (number_left s.numbers); rows = s.rows }
+settling rows (Some s) = record { answer = strip_number (number_left s.numbers); rows = s.rows }
 
 -- a strip of codes is filed: the work area has fewer places than the strip has cells, or the rounds run
 unfoldable pub filing : List Row → List ℕ → ℕ → Filing

@@ -4,7 +4,7 @@ use Rattle.std.specs.List.{flat_map, AllZip}
 use Rattle.cells.specs.Glyphs.{same_glyph, glyph_code, glyph_given}
 use Rattle.book.specs.Laws.{OneNumber}
 use Rattle.book.specs.Runs.{answers_of, strips_of}
-use Rattle.book.specs.Calls.{Answer, numbered, no_rows, refused, refused_at}
+use Rattle.book.specs.Calls.{Answer, strip_number, no_rows, refused, refused_at}
 use Rattle.periodicity.specs.declared.Progression.{Progression}
 use Rattle.questions.specs.declared.refusal.Refusal.{Refusal}
 use Rattle.questions.specs.Answers.{PlacesLaw}
@@ -26,7 +26,7 @@ told_in line.TooLong = too_long
 
 -- how an answer is shown: a number, or `refused` and the refusal's number
 abbrev pub answer_shown : Answer → List ℕ
-answer_shown (numbered n) = decimal n
+answer_shown (strip_number n) = decimal n
 answer_shown (refused number) = refused_shown number
 answer_shown (refused_at number place) = refused_shown number
 

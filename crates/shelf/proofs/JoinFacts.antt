@@ -11,7 +11,7 @@ use Rattle.recompression.specs.Expansions.{written_out}
 use Rattle.recompression.specs.Settlements.{all_rounds}
 use Rattle.shelf.specs.declared.refusal.Refusal.{Refusal}
 use Rattle.shelf.specs.declared.refusal.Refusal.TheVariants.{TooLong, WorkAreaTooShort, UnknownNumber, FragmentLeavesStrip}
-use Rattle.shelf.specs.Refusals.{ComesTo, FilesAs, Writes}
+use Rattle.shelf.specs.Refusals.{ComesTo, StripFiled, Writes}
 use Rattle.shelf.proofs.Expanding.{joined_rounds, cut_rounds}
 use Rattle.shelf.proofs.RowFacts.{kept_length}
 use Rattle.shelf.proofs.Settlings.{told_short, filing_enough, filed_comes, comes_refused, writes_from}
@@ -54,7 +54,7 @@ module _ (book : Book) (law : Lawful book.rows) (left right places : ℕ) (keeps
 
       pub join_settled : (r : Result ℕ Refusal) (after : List Row) (numbers : List ℕ) → size ≤ places
           → numbers ≡ written_out book.rows left 0 (row_of book.rows left).length ++ written_out book.rows right 0 (row_of book.rows right).length
-          → FilesAs r after (settling book.rows (all_rounds book.rows numbers)) → Joined r (with_rows book after)
+          → StripFiled r after (settling book.rows (all_rounds book.rows numbers)) → Joined r (with_rows book after)
       unfolding codes
       join_settled r after numbers enough is comes =
           let many = length_codes in
@@ -91,7 +91,7 @@ module _ (book : Book) (law : Lawful book.rows) (n start size places : ℕ) (kee
           (told_short book.rows (part_of book.rows n start size) places (omega arith) book.rows refl))
 
       pub settled_cut : (r : Result ℕ Refusal) (after : List Row) (numbers : List ℕ) → size ≤ places → numbers ≡ written_out book.rows n start size
-          → FilesAs r after (settling book.rows (all_rounds book.rows numbers)) → Cut r (with_rows book after)
+          → StripFiled r after (settling book.rows (all_rounds book.rows numbers)) → Cut r (with_rows book after)
       settled_cut r after numbers enough is comes =
           let many = length_part in
           cut r (with_rows book after) (filed_comes book r after (settling book.rows (all_rounds book.rows numbers)) (cut_out book n start size places)

@@ -6,7 +6,7 @@ use Rattle.std.proofs.lemmas.List.{take-append-le, take_all}
 use Rattle.std.proofs.lemmas.Bool.{cond-true, cond-false, lt-ltb, le-ltb, le-leb}
 use Rattle.std.proofs.lemmas.List.Elements.{length_all_zip}
 use Rattle.std.specs.List.{AllZip}
-use Rattle.book.specs.Calls.{numbered, refused, Book, with_rows, Turn, refusing, Filing, unfiled, settling, filing, in_book}
+use Rattle.book.specs.Calls.{strip_number, refused, Book, with_rows, Turn, refusing, Filing, unfiled, settling, filing, in_book}
 use Rattle.book.specs.Laws.{OfKind, Stays, WritesCells, PartsKeep}
 use Rattle.rows.specs.declared.Row.{Row}
 use Rattle.rows.specs.Rounds.{Settled, number_left, then, rounds_from, leaf_block, leaves, enough_rounds, settle}
@@ -16,7 +16,7 @@ use Rattle.recompression.specs.Settlements.{all_rounds}
 use Rattle.shelf.specs.declared.refusal.Refusal.{Refusal}
 use Rattle.shelf.specs.declared.refusal.Refusal.TheVariants.{OtherKind, TooLong, Unprintable, WorkAreaTooShort, ShelfFull, UnknownNumber, FragmentLeavesStrip}
 use Rattle.shelf.specs.Leaves.{LeavesFiled, SettlesAs, SettlesOrUndoes}
-use Rattle.shelf.specs.Refusals.{refusal_told, ComesTo, FilesAs, StaysWritten, Writes}
+use Rattle.shelf.specs.Refusals.{refusal_told, ComesTo, StripFiled, StaysWritten, Writes}
 use Rattle.shelf.specs.WritingOut.{WrittenBack, WritesBack}
 
 -- the refusal that is told for want of rows
@@ -30,10 +30,10 @@ full_told UnknownNumber is = let z : ◌≡◌ {A = ℕ} 6 5 = cc in absurd (ome
 full_told FragmentLeavesStrip is = let z : ◌≡◌ {A = ℕ} 7 5 = cc in absurd (omega arith)
 
 -- a refusal is told as no number
-told_apart : (number n : ℕ) → refused number ≡ numbered n → ⊥
+told_apart : (number n : ℕ) → refused number ≡ strip_number n → ⊥
 told_apart number n is = let z : ◌≡◌ {A = ℕ} 0 1 = cc in omega arith
 
-refusal_apart : (e : Refusal) (n : ℕ) → refusal_told e ≡ numbered n → ⊥
+refusal_apart : (e : Refusal) (n : ℕ) → refusal_told e ≡ strip_number n → ⊥
 refusal_apart (Unprintable place) n is = let z : ◌≡◌ {A = ℕ} 0 1 = cc in omega arith
 refusal_apart OtherKind n is = told_apart 1 n is
 refusal_apart TooLong n is = told_apart 2 n is
@@ -56,7 +56,7 @@ module _ (old rows : List Row) (codes numbers : List ℕ) (filed : leaves old co
       let grown = file_all_grows 0 (map leaf_block codes) old (record { numbers = numbers; rows = rows }) filed in
       ap (take (length old)) grown.grows ∙ take-append-le (length old) old grown.added (omega arith) ∙ take_all (length old) old (omega arith)
 
-  by_outcome : (o : Option Settled) → all_rounds rows numbers ≡ o → (r : Result ℕ Refusal) (after : List Row) → FilesAs r after (settling rows o) → SettlesAs old codes r after
+  by_outcome : (o : Option Settled) → all_rounds rows numbers ≡ o → (r : Result ℕ Refusal) (after : List Row) → StripFiled r after (settling rows o) → SettlesAs old codes r after
   by_outcome None is (Ok n) after files = absurd (told_apart 5 n (sym files.0))
   by_outcome None is (Err e) after files =
       (full_told e files.0, settle_from_leaves old rows codes numbers filed ∙ is, ap (take (length old)) files.1 ∙ kept)
@@ -65,7 +65,7 @@ module _ (old rows : List Row) (codes numbers : List ℕ) (filed : leaves old co
       (s, settle_from_leaves old rows codes numbers filed ∙ is, same, files.1)
   by_outcome (Some s) is (Err e) after files = absurd (refusal_apart e (number_left s.numbers) files.0)
 
-  pub settled_after : (r : Result ℕ Refusal) (after : List Row) → FilesAs r after (settling rows (all_rounds rows numbers)) → SettlesAs old codes r after
+  pub settled_after : (r : Result ℕ Refusal) (after : List Row) → StripFiled r after (settling rows (all_rounds rows numbers)) → SettlesAs old codes r after
   settled_after r after files = by_outcome (all_rounds rows numbers) refl r after files
 
 -- leaves that need a row 1,025
@@ -75,7 +75,7 @@ leaves_full old after codes numbers e full = (full.0, ap (λ o. then o (rounds_f
 
 -- what the book tells
 module _ (old : List Row) (codes : List ℕ) (places : ℕ) where
-  pub told_short : places < length codes → (rows : List Row) → rows ≡ old → FilesAs (Err WorkAreaTooShort) rows (filing old codes places)
+  pub told_short : places < length codes → (rows : List Row) → rows ≡ old → StripFiled (Err WorkAreaTooShort) rows (filing old codes places)
   unfolding filing
   told_short few rows same =
       let is = cond-true (ltb places (length codes)) (unfiled old (refused 4)) (settling old (settle old codes)) (lt-ltb places (length codes) few) in
@@ -85,16 +85,16 @@ module _ (old : List Row) (codes : List ℕ) (places : ℕ) where
   unfolding filing
   filing_enough room = cond-false (ltb places (length codes)) (unfiled old (refused 4)) (settling old (settle old codes)) (le-ltb places (length codes) room)
 
-  pub told_settled : length codes ≤ places → (r : Result ℕ Refusal) (after : List Row) → SettlesOrUndoes old codes r after → FilesAs r after (filing old codes places)
+  pub told_settled : length codes ≤ places → (r : Result ℕ Refusal) (after : List Row) → SettlesOrUndoes old codes r after → StripFiled r after (filing old codes places)
   told_settled room (Ok n) after is =
       let same = filing_enough room ∙ ap (settling old) is.1 in
-      (ap numbered is.2 ∙ ap (λ t. t.answer) (sym same), is.3 ∙ ap (λ t. t.rows) (sym same))
+      (ap strip_number is.2 ∙ ap (λ t. t.answer) (sym same), is.3 ∙ ap (λ t. t.rows) (sym same))
   told_settled room (Err e) after is =
       let same = filing_enough room ∙ ap (settling old) is.1 in
       (ap refusal_told is.0 ∙ ap (λ t. t.answer) (sym same), is.2 ∙ ap (λ t. t.rows) (sym same))
 
 -- a strip that is filed is a turn of the book
-pub filed_comes : (book : Book) (r : Result ℕ Refusal) (after : List Row) (f : Filing) (t : Turn) → t ≡ in_book book f → FilesAs r after f → ComesTo r (with_rows book after) t
+pub filed_comes : (book : Book) (r : Result ℕ Refusal) (after : List Row) (f : Filing) (t : Turn) → t ≡ in_book book f → StripFiled r after f → ComesTo r (with_rows book after) t
 filed_comes book r after f t same files = (files.0 ∙ ap (λ u. u.answer) (sym same), ap (with_rows book) files.1 ∙ ap (λ u. u.book) (sym same))
 
 -- a refusal leaves the book as it stood

@@ -6,7 +6,7 @@ use Rattle.book.proofs.CallFacts.{taken_long, taken_short}
 use Rattle.rows.specs.declared.Row.{Row}
 use Rattle.shelf.specs.declared.refusal.Refusal.{Refusal}
 use Rattle.shelf.specs.declared.refusal.Refusal.TheVariants.{OtherKind, TooLong, Unprintable, WorkAreaTooShort, ShelfFull, UnknownNumber, FragmentLeavesStrip}
-use Rattle.shelf.specs.Refusals.{ComesTo, FilesAs, Unfit}
+use Rattle.shelf.specs.Refusals.{ComesTo, StripFiled, Unfit}
 use Rattle.shelf.proofs.Settlings.{filed_comes, comes_refused}
 
 module _ {C : Type 0} (coded : C → Option ℕ) (book : Book) (places : ℕ) (same_kind : Bool) (is : same_kind ≡ true) where
@@ -22,7 +22,7 @@ module _ {C : Type 0} (coded : C → Option ℕ) (book : Book) (places : ℕ) (s
 
   -- cells that pass both come to what their strip comes to
   pub comes_fit : (fit cells : List C) → fit ≡ cells → length fit ≤ 65535 → first_unprintable coded fit ≡ None → (r : Result ℕ Refusal) (after : List Row)
-      → FilesAs r after (filing book.rows (printed coded fit) places) → ComesTo r (with_rows book after) (taken same_kind coded book cells places)
+      → StripFiled r after (filing book.rows (printed coded fit) places) → ComesTo r (with_rows book after) (taken same_kind coded book cells places)
   comes_fit fit cells same short printable r after files =
       subst (λ cs. ComesTo r (with_rows book after) (taken same_kind coded book cs places)) same
       (filed_comes book r after (filing book.rows (printed coded fit) places) (taken same_kind coded book fit places) (taken_short coded book fit places same_kind is short None printable) files)

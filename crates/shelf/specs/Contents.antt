@@ -1,6 +1,6 @@
 -- The kind and the rows of a shelf. Assumes nothing.
 use Rattle.std.specs.Prelude.{ℕ, cond, List, length, Some, None, Option, nat_le, nat_lt, slice_index}
-use Rattle.book.specs.Calls.{Book}
+use Rattle.book.specs.Calls.{Book, no_rows, with_rows}
 use Rattle.rows.specs.declared.Row.{Row}
 use Rattle.rows.specs.Strips.{strip}
 use Rattle.recompression.specs.Contents.{rows_in, slots_in}
@@ -19,7 +19,7 @@ slots_on s = slots_in s.table
 
 -- the shelf as the plain book tells it
 abbrev pub book_of : Shelf → Book
-book_of s = record { rows = rows_on s }
+book_of s = with_rows no_rows (rows_on s)
 
 -- the length of a known number's strip; none for a number that is not known
 abbrev pub length_at : List Row → ℕ → Option ℕ

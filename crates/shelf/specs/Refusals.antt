@@ -1,6 +1,6 @@
 -- Refusals by number, and the answers that results stand for. Assumes nothing.
 use Rattle.std.specs.Prelude.{◌≡◌, ℕ, ◌<◌, ◌≤◌, List, ◌++◌, length, Some, Ok, Err, Option, codes as ascii, decimal, Result}
-use Rattle.book.specs.Calls.{Answer, numbered, refused, refused_at, Book, Turn, Filing}
+use Rattle.book.specs.Calls.{Answer, strip_number, refused, refused_at, Book, Turn, Filing}
 use Rattle.book.specs.Laws.{KindKept}
 use Rattle.cells.specs.Printing.{first_unprintable}
 use Rattle.rows.specs.declared.Row.{Row}
@@ -42,7 +42,7 @@ refusal_told refusal = refused (refusal_number refusal)
 
 -- the answer that a call's result stands for
 abbrev pub told : Result ℕ Refusal → Answer
-told (Ok n) = numbered n
+told (Ok n) = strip_number n
 told (Err e) = refusal_told e
 
 -- a call's result and the book that it leaves are those of a turn of the book
@@ -50,8 +50,8 @@ abbrev pub ComesTo : Result ℕ Refusal → Book → Turn → Type 0
 ComesTo r book t = (told r ≡ t.answer) × (book ≡ t.book)
 
 -- the same of a strip that is filed, and the rows
-abbrev pub FilesAs : Result ℕ Refusal → List Row → Filing → Type 0
-FilesAs r rows f = (told r ≡ f.answer) × (rows ≡ f.rows)
+abbrev pub StripFiled : Result ℕ Refusal → List Row → Filing → Type 0
+StripFiled r rows f = (told r ≡ f.answer) × (rows ≡ f.rows)
 
 -- the number answered writes these codes, now and when rows have been added
 abbrev pub StaysWritten : List ℕ → List Row → Result ℕ Refusal → Type 0

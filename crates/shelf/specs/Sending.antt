@@ -38,7 +38,7 @@ AnyHistory {C} coded has given same same_kind before calls answers after =
 
 -- calls sent to a shelf, with `count` places for their answers: how they leave it and the answers are those of the book,
 -- and the other places stay as they were. Rows of the kind stay of it, and then the law of one number holds of the
--- answers; and so it does over any history
+-- answers, also where the shelf has another kind number; and on a shelf of the kind so it does over any history
 pub record SentTo {C : Type 0} (coded : C → Option ℕ) (has : ℕ → Bool) (given : ℕ → C) (same : C → C → Type 0) (same_kind : Bool) (before : Book) (calls : List (book.Sent C)) (count : ℕ) (old new : List (Result ℕ Refusal)) (after : Book) : Type 0 where
   pub leaves : after ≡ book.book_after same_kind coded before calls
   pub answers : map told (take count new) ≡ book.answers_of same_kind coded before calls

@@ -27,8 +27,7 @@ fn expand_both(table: &Table, left: u16, right: u16, numbers: &mut [u16])
     expand_part(table, right, 0, back);
 }
 
-// How many cells two strips have, one after the other. A function of its own, so that a wrong sum is refused at its
-// contract.
+// How many cells two strips have, one after the other.
 fn joint_length(left: usize, right: usize) -> usize
     requires { left + right ≤ 131070 }
     ensures { result ≡ left + right }

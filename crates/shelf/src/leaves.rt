@@ -5,7 +5,7 @@ ghost use Rattle.recompression.specs.Contents.{rows_in};
 ghost use Rattle.recompression.specs.Expansions.{written_out};
 ghost use Rattle.recompression.specs.Settlements.{all_rounds};
 ghost use Rattle.rows.specs.Filing.{row_of};
-ghost use Rattle.shelf.specs.Refusals.{FilesAs};
+ghost use Rattle.shelf.specs.Refusals.{StripFiled};
 
 use crate::Refusal;
 use recompression::Table;
@@ -13,7 +13,7 @@ use recompression::Table;
 // The number of a string of leaf numbers, which gets its rows.
 pub(crate) fn settle_leaves(table: &mut Table, numbers: &mut [u16]) -> Result<u16, Refusal>
     requires { length numbers.old ≤ 65535 }
-    ensures { FilesAs result (rows_in table.new) (settling (rows_in table.old) (all_rounds (rows_in table.old) numbers.old)) }
+    ensures { StripFiled result (rows_in table.new) (settling (rows_in table.old) (all_rounds (rows_in table.old) numbers.old)) }
 {
     match table.settle(numbers) {
         Ok(reached) => Ok(reached.number),

@@ -4,7 +4,7 @@ ghost use Rattle.book.specs.Calls.{printed, filing};
 ghost use Rattle.cells.specs.Printing.{first_unprintable};
 ghost use Rattle.recompression.specs.Contents.{rows_in};
 ghost use Rattle.shelf.specs.Leaves.{LeavesFiled, SettlesAs, SettlesOrUndoes};
-ghost use Rattle.shelf.specs.Refusals.{FilesAs, Unfit};
+ghost use Rattle.shelf.specs.Refusals.{StripFiled, Unfit};
 
 use crate::leaves::settle_leaves;
 use crate::refusal::Refusal;
@@ -78,7 +78,7 @@ impl<'a, K: CellKind> Printable<'a, K> {
 
     // The number of the strip, which gets its rows, worked out on a work area that the caller clears.
     pub(crate) fn file(&self, table: &mut Table, work: &mut [u16]) -> Result<u16, Refusal>
-        ensures { FilesAs result (rows_in table.new) (filing (rows_in table.old) (printed K.coded self.now.cells.now) (length work.old)) }
+        ensures { StripFiled result (rows_in table.new) (filing (rows_in table.old) (printed K.coded self.now.cells.now) (length work.old)) }
     {
         let size = self.cells.len();
         if work.len() < size {

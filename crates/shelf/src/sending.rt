@@ -71,8 +71,7 @@ impl Shelf {
         count
     }
 
-    // A new shelf as the book tells it: with more to choose from, the checker does not find by itself what `begin`
-    // promises.
+    // A new shelf as the book tells it.
     fn fresh<K: CellKind>() -> Shelf
         ensures book { book_of result ≡ no_rows }
         ensures kind { kind_of result ≡ K.NUMBER }

@@ -4,7 +4,7 @@ ghost use Rattle.book.specs.Calls.{part_of};
 ghost use Rattle.rows.specs.Strips.{strip};
 ghost use Rattle.cells.specs.Giving.{given_by};
 ghost use Rattle.shelf.specs.Contents.{kind_of, rows_on};
-ghost use Rattle.shelf.specs.WritingOut.{refusal_of, writing_check, cells_after};
+ghost use Rattle.shelf.specs.WritingOut.{refusal_of, check_number, writing_check, cells_after};
 
 use crate::Shelf;
 use crate::refusal::Refusal;
@@ -33,7 +33,7 @@ impl Shelf {
         start: usize,
         cells: &mut [K],
     ) -> Result<(), Refusal>
-        ensures outcome { refusal_of result ≡ writing_check (kind_of self.now == K.NUMBER) (rows_on self.now) number start (length cells.old) }
+        ensures outcome { refusal_of result ≡ check_number (writing_check (kind_of self.now == K.NUMBER) (rows_on self.now) number start (length cells.old)) }
         ensures written { cells.new ≡ cells_after (given_by K.has K.spelled K.BLANK) (writing_check (kind_of self.now == K.NUMBER) (rows_on self.now) number start (length cells.old)) (rows_on self.now) number start cells.old }
     {
         if !self.is_of_kind::<K>() {

@@ -6,7 +6,7 @@ use Rattle.rows.specs.declared.Row.{Row}
 use Rattle.rows.specs.declared.Shape.{Shape}
 use Rattle.rows.specs.declared.Shape.TheVariants.{Leaf, Pair, Repeat}
 use Rattle.rows.specs.Lawful.{lawful_row}
-use Rattle.book.specs.Calls.{Book, Turn, numbered, refused, refusing, taken, joined_up, cut_out}
+use Rattle.book.specs.Calls.{Book, no_rows, with_rows, Turn, strip_number, refused, refusing, taken, joined_up, cut_out}
 use Rattle.worked.specs.Examples.{Examples}
 
 -- a row of that shape, length and round
@@ -40,11 +40,11 @@ nine_rows = eight_rows ++ (made_row (Pair 2 3) 3 24 ∷ [])
 
 -- a book with these rows
 abbrev pub book_with : List Row → Book
-book_with rows = record { rows = rows }
+book_with rows = with_rows no_rows rows
 
 -- a call is answered by the number of a strip and leaves these rows
 abbrev pub answering : ℕ → List Row → Turn
-answering n rows = record { answer = numbered n; book = book_with rows }
+answering n rows = record { answer = strip_number n; book = book_with rows }
 
 -- a call is refused by this number and leaves the rows as they stood
 abbrev pub refused_on : List Row → ℕ → Turn
