@@ -4,7 +4,6 @@ use Rattle.std.proofs.Math.Seq.{take-add}
 use Rattle.std.proofs.lemmas.List.{append-nil, length-drop, drop-drop, take_rest, take_all}
 use Rattle.std.specs.Io.KnownBytes.{Appends, Keeps}
 use Rattle.job.specs.Lines.{printed_by}
-use Rattle.job_stream.proofs.Beginnings.{printed_beginning}
 use Rattle.job_stream.specs.Moments.{AppendsBeginning}
 
 -- nothing is appended by bytes that stay
@@ -66,16 +65,16 @@ pub nothing_printed : (input known : Option (List ℕ)) → IfSome input (λ byt
 nothing_printed None known = tt
 nothing_printed (Some bytes) known = (0, omega arith, stays_appended known)
 
-pub begins_printed : (input old new : Option (List ℕ)) (text read : List ℕ) → IfSome input (λ bytes. read ≡ take 32769 bytes) → text ≡ printed_by read → AppendsBeginning old new text → IfSome input (λ bytes. AppendsBeginning old new (printed_by bytes))
+pub begins_printed : (input old new : Option (List ℕ)) (text read : List ℕ) → IfSome input (λ bytes. printed_by read ≡ printed_by bytes) → text ≡ printed_by read → AppendsBeginning old new text → IfSome input (λ bytes. AppendsBeginning old new (printed_by bytes))
 begins_printed None old new text read reads prints begun = tt
-begins_printed (Some bytes) old new text read reads prints begun = subst (AppendsBeginning old new) (prints ∙ ap printed_by reads ∙ printed_beginning bytes) begun
+begins_printed (Some bytes) old new text read reads prints begun = subst (AppendsBeginning old new) (prints ∙ reads) begun
 
 -- where the failure of writing is told in other words
-pub failed_write : {A B E F : Type 0} (r : Result A E) (s : Result B F) (input old new : Option (List ℕ)) (text read : List ℕ) → is_ok s ≡ is_ok r → IfSome input (λ bytes. read ≡ take 32769 bytes) → text ≡ printed_by read
+pub failed_write : {A B E F : Type 0} (r : Result A E) (s : Result B F) (input old new : Option (List ℕ)) (text read : List ℕ) → is_ok s ≡ is_ok r → IfSome input (λ bytes. printed_by read ≡ printed_by bytes) → text ≡ printed_by read
     → OnErr r (AppendsBeginning old new text) → OnErr s (IfSome input (λ bytes. AppendsBeginning old new (printed_by bytes)))
 failed_write (Ok a) (Ok b) input old new text read same reads prints begun = tt
 failed_write (Ok a) (Err f) input old new text read same reads prints begun = cc
 failed_write (Err e) (Ok b) input old new text read same reads prints begun = tt
 failed_write (Err e) (Err f) input old new text read same reads prints begun = begins_printed input old new text read reads prints begun
 
-pub ruleset printing = (printed_beginning, nothing_printed, failed_write)
+pub ruleset printing = (nothing_printed, failed_write)

@@ -23,6 +23,14 @@ fn read_at_most<R: Read + Drop>(heap: Global, input: R, limit: u64) -> io::Resul
     Ok(bytes)
 }
 
+// As much of a job as tells what it prints.
+#[tactic(auto, using(crate::proofs::Beginnings::printed_beginning))]
+fn read_job<R: Read + Drop>(heap: Global, input: R) -> io::Result<Vec<u8>>
+    ensures { IfOk result (λ read. IfSome (R.remaining input) (λ bytes. printed_by read.items ≡ printed_by bytes)) }
+{
+    read_at_most(heap, input, MOST_READ)
+}
+
 // Writes a beginning of some bytes, and answers how many the output took: none where the call was interrupted. That an
 // output takes none of them is a failure.
 fn write_some<W: Write>(output: &mut W, bytes: &[u8]) -> io::Result<usize>
@@ -73,7 +81,7 @@ pub fn run_through<R: Read + Drop, W: Write>(
     ensures begun { OnErr result (IfSome (R.remaining input)
         (λ bytes. AppendsBeginning (W.contents output.old) (W.contents output.new) (printed_by bytes))) }
 {
-    let bytes = read_at_most(heap, input, MOST_READ).map_err(Failure::Read)?;
+    let bytes = read_job(heap, input).map_err(Failure::Read)?;
     let printed = job::run(heap, bytes.as_slice())?;
     write_whole(output, printed.as_bytes()).map_err(Failure::Write)
 }
