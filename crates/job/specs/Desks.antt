@@ -1,5 +1,5 @@
 -- How things stand on a desk, and what a turn there does. Assumes nothing.
-use Rattle.std.specs.Prelude.{◌≡◌, ℕ, ◌-◌, length, cond, List, [], ◌∷◌, Some, None, vec_items, Option, ⊤}
+use Rattle.std.specs.Prelude.{◌≡◌, ℕ, ◌-◌, length, cond, List, [], ◌∷◌, Some, None, vec_items, Option, true}
 use Rattle.cells.specs.declared.glyph.Glyph.{Glyph}
 use Rattle.shelf.specs.Contents.{book_of}
 use Rattle.job.specs.declared.command.Command.{Command}
@@ -7,7 +7,7 @@ use Rattle.job.specs.declared.command.Command.TheVariants.{Glyph as put, Take, J
 use Rattle.job.specs.declared.desk.Desk.{Desk}
 use Rattle.job.specs.declared.line.Line.{Line}
 use Rattle.job.specs.Commands.{Front}
-use Rattle.job.specs.Runs.{Standing, Told, stopped, fits, told_by, after}
+use Rattle.job.specs.Runs.{Standing, Told, stopped, has_room, fits, told_by, after}
 use Rattle.job.specs.Lines.{told_in}
 
 abbrev pub standing_of : Desk → Standing
@@ -28,13 +28,13 @@ abbrev pub told_at_end : List ℕ → List ℕ → List Told
 told_at_end job [] = []
 told_at_end job (b ∷ bs) = stopped (length job - length (b ∷ bs)) ∷ []
 
--- a command that puts a glyph on the tray, which alone takes memory
-abbrev pub PutsGlyph : Command → Type 0
-PutsGlyph (put number) = ⊤
-PutsGlyph Take = ⊥
-PutsGlyph (Join left right) = ⊥
-PutsGlyph (Cut number part) = ⊥
-PutsGlyph (Places number pattern field) = ⊥
+-- a command that puts a glyph on a tray with room for it, which alone takes memory
+abbrev pub PutsGlyph : List Glyph → Command → Type 0
+PutsGlyph tray (put number) = has_room tray ≡ true
+PutsGlyph tray Take = ⊥
+PutsGlyph tray (Join left right) = ⊥
+PutsGlyph tray (Cut number part) = ⊥
+PutsGlyph tray (Places number pattern field) = ⊥
 
 -- what a command tells, and how it leaves things
 pub record Does (before : Standing) (command : Command) (tells : List Told) (standing : Standing) : Type 0 where

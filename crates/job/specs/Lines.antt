@@ -62,7 +62,7 @@ LawfullyFound asked found = (r : Result (Option Progression) Refusal) × (outcom
 -- strips that they wrote have the same length and the same glyphs, by the kind's rule of sameness. Each F line is
 -- lawful, and there is one for each question of the job
 pub record LawfulPrintout (job text : List ℕ) : Type 0 where
-  pub prints : text ≡ flat_map line_bytes (told_of job)
+  pub prints : text ≡ printed_by job
   pub answers : answers_in (told_of job) ≡ answers_of true glyph_code no_rows (calls_of job)
   pub law : OneNumber same_glyph (answers_in (told_of job)) (strips_of true glyph_code glyph_given no_rows (calls_of job))
   pub places : AllZip LawfullyFound (asked_of job) (found_in (told_of job))

@@ -1,6 +1,6 @@
 //! The desk at which a job is run: a glyph shelf, the tray and the work area.
 
-ghost use Rattle.std.specs.Prelude.{◌≡◌, [], ◌∷◌, IfOk, IfErr, OnOk, OnErr};
+ghost use Rattle.std.specs.Prelude.{◌≡◌, true, [], ◌∷◌, IfOk, IfErr, OnOk, OnErr};
 ghost use Rattle.job.specs.Commands.{seen, command_at};
 ghost use Rattle.job.specs.Runs.{nothing_yet, has_room as has_room_on, fits as fits_on};
 ghost use Rattle.job.specs.Lines.{told_in};
@@ -70,11 +70,12 @@ impl Desk {
         Command::read(bytes).filter(|(command, _)| self.fits(*command))
     }
 
-    /// Puts a glyph on the tray, and answers whether it had room: a full tray stays as it is. Where memory is short,
-    /// the desk is as it was.
+    /// Puts a glyph on the tray, and answers whether it had room: a full tray stays as it is. Memory can be
+    /// short only where it has; the desk is then as it was.
     pub fn put(&mut self, number: u16) -> Result<bool, AllocError>
         ensures room { IfOk result (λ room. room ≡ has_room_on self.old.tray.items) }
         ensures done { OnOk result (Does (standing_of self.old) (Command.Glyph number) [] (standing_of self.new)) }
+        ensures failed { IfErr result (λ _. has_room_on self.old.tray.items ≡ true) }
         ensures kept { OnErr result (standing_of self.new ≡ standing_of self.old) }
     {
         if !self.has_room() {
@@ -111,7 +112,7 @@ impl Desk {
     }
 
     /// Asks for the places of a pattern in a field of a number's strip, and changes nothing. An unknown number stands
-    /// for the empty strip. Refused where a fragment leaves the strip, or the field is twice as long as the pattern.
+    /// for the empty strip. Refused where a fragment leaves the strip, or the field is at least twice as long as the pattern.
     pub fn find(&self, number: u16, pattern: Fragment, field: Fragment) -> Line
         ensures { Does (standing_of self.now) (Command.Places number pattern field) (told_in result ∷ []) (standing_of self.now) }
     {
@@ -119,10 +120,10 @@ impl Desk {
     }
 
     /// Does a command, and answers the line that it prints, if it prints one: C prints none. Memory can be short for
-    /// C alone, and the desk is then as it was.
+    /// C alone, on a tray with room, and the desk is then as it was.
     pub fn perform(&mut self, command: Command) -> Result<Option<Line>, AllocError>
         ensures done { IfOk result (λ line. Does (standing_of self.old) command (told_lines line) (standing_of self.new)) }
-        ensures failed { IfErr result (λ _. PutsGlyph command) }
+        ensures failed { IfErr result (λ _. PutsGlyph self.old.tray.items command) }
         ensures kept { OnErr result (standing_of self.new ≡ standing_of self.old) }
     {
         match command {

@@ -2,9 +2,9 @@
 //! for places; and the lines that they print.
 #![tactic(auto)]
 
-pub mod command;
-pub mod desk;
-pub mod line;
+mod command;
+mod desk;
+mod line;
 mod running;
 
 pub use command::Command;

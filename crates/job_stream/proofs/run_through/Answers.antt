@@ -8,5 +8,5 @@ use Rattle.job_stream.proofs.run_through.Goals as goal
 pub returns-clause-begun : goal.returns-clause-begun
 returns-clause-begun g c =
     let reads : IfSome (g.R.Read.remaining c.args.input) (λ bytes. printed_by c.in_ok-bytes.bytes.items ≡ printed_by bytes) = grind (arith, common_steps) in
-    let prints : c.as_bytes.result.now ≡ printed_by c.in_ok-bytes.bytes.items = c.as_bytes.ensures.value ∙ c.in_ok-printed.ensures.printed ∙ ap printed_by c.as_slice.ensures.value in
+    let prints : c.as_bytes.result.now ≡ printed_by c.in_ok-bytes.bytes.items = c.as_bytes.ensures.value ∙ c.in_ok-printed.ensures.prints ∙ ap printed_by c.as_slice.ensures.value in
     failed_write c.write_whole.result c.map_err-2.result _ _ _ c.as_bytes.result.now c.in_ok-bytes.bytes.items c.map_err-2.ensures.variant reads prints c.write_whole.ensures.beginning
