@@ -1,7 +1,7 @@
 //! The commands of a job.
 
 ghost use Rattle.std.specs.Prelude.{◌≡◌, ◌+◌, ◌*◌, ◌++◌, List, ℕ, Some, IfSome};
-ghost use Rattle.job.specs.Commands.{seen, command_at, spelling};
+ghost use Rattle.job.specs.Commands.{seen, command_at, cut_at, places_at, spelling};
 
 use periodicity::Fragment;
 
@@ -49,6 +49,70 @@ fn fragment(start: u16, length: u16) -> Fragment
     }
 }
 
+// The operands of K at the front of some bytes, and the bytes after them.
+#[tactic(auto, using(crate::proofs::Letters::operands))]
+fn cut_operands(bytes: &[u8]) -> Option<(Command, &[u8])>
+    ensures { seen result ≡ cut_at bytes.now }
+{
+    let [
+        number_high,
+        number_low,
+        start_high,
+        start_low,
+        length_high,
+        length_low,
+        rest @ ..,
+    ] = bytes
+    else {
+        return None;
+    };
+    let number = operand(*number_high, *number_low);
+    let start = operand(*start_high, *start_low);
+    let length = operand(*length_high, *length_low);
+    let part = fragment(start, length);
+    Some((Command::Cut { number, part }, rest))
+}
+
+// The operands of F at the front of some bytes, and the bytes after them.
+#[tactic(auto, using(crate::proofs::Letters::operands))]
+fn places_operands(bytes: &[u8]) -> Option<(Command, &[u8])>
+    ensures { seen result ≡ places_at bytes.now }
+{
+    let [
+        number_high,
+        number_low,
+        pattern_start_high,
+        pattern_start_low,
+        pattern_length_high,
+        pattern_length_low,
+        field_start_high,
+        field_start_low,
+        field_length_high,
+        field_length_low,
+        rest @ ..,
+    ] = bytes
+    else {
+        return None;
+    };
+    let number = operand(*number_high, *number_low);
+    let pattern = fragment(
+        operand(*pattern_start_high, *pattern_start_low),
+        operand(*pattern_length_high, *pattern_length_low),
+    );
+    let field = fragment(
+        operand(*field_start_high, *field_start_low),
+        operand(*field_length_high, *field_length_low),
+    );
+    Some((
+        Command::Places {
+            number,
+            pattern,
+            field,
+        },
+        rest,
+    ))
+}
+
 // The command at the front of some bytes.
 #[tactic(auto, using(crate::proofs::Letters::readings))]
 fn at_front(bytes: &[u8]) -> Option<(Command, &[u8])>
@@ -65,52 +129,8 @@ fn at_front(bytes: &[u8]) -> Option<(Command, &[u8])>
             let right = operand(*right_high, *right_low);
             Some((Command::Join { left, right }, rest))
         }
-        [
-            b'K',
-            number_high,
-            number_low,
-            start_high,
-            start_low,
-            length_high,
-            length_low,
-            rest @ ..,
-        ] => {
-            let number = operand(*number_high, *number_low);
-            let start = operand(*start_high, *start_low);
-            let length = operand(*length_high, *length_low);
-            let part = fragment(start, length);
-            Some((Command::Cut { number, part }, rest))
-        }
-        [
-            b'F',
-            number_high,
-            number_low,
-            pattern_start_high,
-            pattern_start_low,
-            pattern_length_high,
-            pattern_length_low,
-            field_start_high,
-            field_start_low,
-            field_length_high,
-            field_length_low,
-            rest @ ..,
-        ] => {
-            let number = operand(*number_high, *number_low);
-            let pattern = fragment(
-                operand(*pattern_start_high, *pattern_start_low),
-                operand(*pattern_length_high, *pattern_length_low),
-            );
-            let field = fragment(
-                operand(*field_start_high, *field_start_low),
-                operand(*field_length_high, *field_length_low),
-            );
-            let command = Command::Places {
-                number,
-                pattern,
-                field,
-            };
-            Some((command, rest))
-        }
+        [b'K', operands @ ..] => cut_operands(operands),
+        [b'F', operands @ ..] => places_operands(operands),
         _ => None,
     }
 }
