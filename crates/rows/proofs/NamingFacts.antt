@@ -6,7 +6,7 @@ use Rattle.std.proofs.lemmas.Bool.{cases_lt, cond-true, cond-false, lt-ltb, le-l
 use Rattle.rows.specs.declared.Shape.{Shape}
 use Rattle.rows.specs.declared.Row.{Row}
 use Rattle.rows.specs.Filing.{find, file}
-use Rattle.rows.specs.Laws.{after_rounds}
+use Rattle.rows.specs.Laws.{rounds_run, after_rounds}
 use Rattle.rows.specs.Rounds.{Block, one, new, blocks, Filed, then, with_number, file_all, round, Settled, settled, rounds_from, leaf_block, leaves, enough_rounds, settle}
 use Rattle.rows.proofs.FilingFacts.{find_append, file_grows, file_found}
 
@@ -191,24 +191,41 @@ rounds_again (suc most) k f s others alike h =
           ∙ rounds_again most (k + 1) g s others alike on.3
     ]
 
--- one round more
-pub after_more : (k : ℕ) (rows : List Row) (codes : List ℕ) (f g : Filed) → after_rounds k rows codes ≡ Some f → round (k + 1) f ≡ Some g → after_rounds (k + 1) rows codes ≡ Some g
-unfolding after_rounds
-after_more k rows codes f g so_far next =
-    let e : suc k ≡ k + 1 = omega arith in
-    ap (λ i. after_rounds i rows codes) (sym e) ∙ ap (λ o. then o (round (suc k))) so_far ∙ ap (λ i. round i f) e ∙ next
+-- no round leaves the leaves
+pub after_none : (rows : List Row) (codes : List ℕ) → after_rounds 0 rows codes ≡ leaves rows codes
+unfolding after_rounds rounds_run
+after_none rows codes = go (leaves rows codes)
+  where
+    go : (o : Option Filed) → then o (rounds_run 0) ≡ o
+    go None = refl
+    go (Some f) = refl
 
--- rounds that go on after j rounds are rounds on end
-rounds_on_end : (most k : ℕ) (rows : List Row) (codes : List ℕ) (f : Filed) (s : Settled) → after_rounds k rows codes ≡ Some f → rounds_from most k f ≡ Some s
-    → after_rounds s.rounds rows codes ≡ Some (record { numbers = s.numbers; rows = s.rows })
+-- and one round more is run on what was left
+pub after_next : (j : ℕ) (rows : List Row) (codes : List ℕ) → after_rounds (suc j) rows codes ≡ then (after_rounds j rows codes) (round (suc j))
+unfolding after_rounds rounds_run
+after_next j rows codes = go (leaves rows codes)
+  where
+    go : (o : Option Filed) → then o (rounds_run (suc j)) ≡ then (then o (rounds_run j)) (round (suc j))
+    go None = refl
+    go (Some f) = refl
+
+pub run_more : (k : ℕ) (f g h : Filed) → rounds_run k f ≡ Some g → round (k + 1) g ≡ Some h → rounds_run (k + 1) f ≡ Some h
+unfolding rounds_run
+run_more k f g h so_far next =
+    let e : suc k ≡ k + 1 = omega arith in
+    ap (λ i. rounds_run i f) (sym e) ∙ ap (λ o. then o (round (suc k))) so_far ∙ ap (λ i. round i g) e ∙ next
+
+-- rounds that go on after k rounds are rounds on end
+rounds_on_end : (most k : ℕ) (f g : Filed) (s : Settled) → rounds_run k f ≡ Some g → rounds_from most k g ≡ Some s
+    → rounds_run s.rounds f ≡ Some (record { numbers = s.numbers; rows = s.rows })
 unfolding rounds_from
-rounds_on_end zero k rows codes f s so_far h =
-    let e : settled f k ≡ s = cc in
-    subst (λ g. after_rounds g.rounds rows codes ≡ Some (record { numbers = g.numbers; rows = g.rows })) e so_far
-rounds_on_end (suc most) k rows codes f s so_far h =
-    elim (rounds_step most k f s h) [
-      | inl stopped ↦ subst (λ g. after_rounds g.rounds rows codes ≡ Some (record { numbers = g.numbers; rows = g.rows })) stopped.1 so_far
-      | inr on ↦ rounds_on_end most (k + 1) rows codes on.1 s (after_more k rows codes f on.1 so_far on.2) on.3
+rounds_on_end zero k f g s so_far h =
+    let e : settled g k ≡ s = cc in
+    subst (λ t. rounds_run t.rounds f ≡ Some (record { numbers = t.numbers; rows = t.rows })) e so_far
+rounds_on_end (suc most) k f g s so_far h =
+    elim (rounds_step most k g s h) [
+      | inl stopped ↦ subst (λ t. rounds_run t.rounds f ≡ Some (record { numbers = t.numbers; rows = t.rows })) stopped.1 so_far
+      | inr on ↦ rounds_on_end most (k + 1) f on.1 s (run_more k f g on.1 so_far on.2) on.3
     ]
 
 -- settling files the leaves, and then runs rounds
@@ -219,10 +236,10 @@ settle_parts rows codes s h = then_some (leaves rows codes) (rounds_from (enough
 
 -- settling is a number of rounds on end
 pub settles_by_rounds : (rows : List Row) (codes : List ℕ) (s : Settled) → settle rows codes ≡ Some s → after_rounds s.rounds rows codes ≡ Some (record { numbers = s.numbers; rows = s.rows })
-unfolding after_rounds
+unfolding after_rounds rounds_run
 settles_by_rounds rows codes s h =
     let parts = settle_parts rows codes s h in
-    rounds_on_end (enough_rounds (length codes)) 0 rows codes parts.0 s parts.1 parts.2
+    ap (λ o. then o (rounds_run s.rounds)) parts.1 ∙ rounds_on_end (enough_rounds (length codes)) 0 parts.0 parts.0 s refl parts.2
 
 pub settle_grows : (rows : List Row) (codes : List ℕ) (s : Settled) → settle rows codes ≡ Some s → (added : List Row) × (s.rows ≡ rows ++ added)
 settle_grows rows codes s h =

@@ -5,18 +5,18 @@ use Rattle.std.specs.List.{AllByRecursion}
 use Rattle.std.proofs.lemmas.List.{append_assoc, replicate_more}
 use Rattle.std.proofs.lemmas.Bool.{both_ways, cond_both, cond-true, cond-false, and_parts, and_left, not-true, eqb-true, eq-eqb, ltb-true, ltb-false, le-ltb}
 use Rattle.rows.specs.declared.Shape.TheVariants.{Leaf, Pair, Repeat}
-use Rattle.rows.specs.Blocks.{symbols, spelled, InRound, first_of, last_of, merges, CutUp, NoneMerge}
+use Rattle.rows.specs.Blocks.{symbols, spelled, InRound, first_number, last_number, merges, CutUp, NoneMerge}
 use Rattle.rows.specs.Rounds.{Block, one, new, stretch, stretches_from, stretches, is_left, joins, pairs, pairs_from, blocks}
 
 -- the number x does not merge with the first number of the blocks after it
 abbrev pub Apart : ℕ → ℕ → List Block → Type 0
 Apart k x [] = Unit {0}
-Apart k x (b ∷ bs) = merges k x (first_of b) ≡ false
+Apart k x (b ∷ bs) = merges k x (first_number b) ≡ false
 
 -- blocks of round k of which no two neighbours merge
 abbrev pub Parsed : ℕ → List Block → Type 0
 Parsed k [] = Unit {0}
-Parsed k (b ∷ bs) = InRound k b × Apart k (last_of b) bs × Parsed k bs
+Parsed k (b ∷ bs) = InRound k b × Apart k (last_number b) bs × Parsed k bs
 
 pub spelled_append : (bs cs : List Block) → spelled (bs ++ cs) ≡ spelled bs ++ spelled cs
 spelled_append [] cs = refl
@@ -33,7 +33,7 @@ apart_before k x (b ∷ bs) cs p = p
 
 pub parsed_before : (k : ℕ) (bs cs : List Block) → Parsed k (bs ++ cs) → Parsed k bs
 parsed_before k [] cs p = tt
-parsed_before k (b ∷ bs) cs p = (p.0, apart_before k (last_of b) bs cs p.1, parsed_before k bs cs p.2)
+parsed_before k (b ∷ bs) cs p = (p.0, apart_before k (last_number b) bs cs p.1, parsed_before k bs cs p.2)
 
 kinds_from_parsed : (k : ℕ) (bs : List Block) → Parsed k bs → AllByRecursion (InRound k) bs
 kinds_from_parsed k [] p = tt
@@ -49,11 +49,11 @@ symbols_stretch n m some =
     ap (λ j. replicate j n) single)
     (λ e. refl)
 
-first_of_stretch : (n m : ℕ) → first_of (stretch n m) ≡ n
-first_of_stretch n m = cond_both (ltb m 2) (one n) (new (Repeat n m)) (λ b. first_of b ≡ n) (λ e. refl) (λ e. refl)
+first_of_stretch : (n m : ℕ) → first_number (stretch n m) ≡ n
+first_of_stretch n m = cond_both (ltb m 2) (one n) (new (Repeat n m)) (λ b. first_number b ≡ n) (λ e. refl) (λ e. refl)
 
-last_of_stretch : (n m : ℕ) → last_of (stretch n m) ≡ n
-last_of_stretch n m = cond_both (ltb m 2) (one n) (new (Repeat n m)) (λ b. last_of b ≡ n) (λ e. refl) (λ e. refl)
+last_of_stretch : (n m : ℕ) → last_number (stretch n m) ≡ n
+last_of_stretch n m = cond_both (ltb m 2) (one n) (new (Repeat n m)) (λ b. last_number b ≡ n) (λ e. refl) (λ e. refl)
 
 replicate_then : (m n : ℕ) (s : List ℕ) → replicate m n ++ (n ∷ s) ≡ replicate (m + 1) n ++ s
 replicate_then m n s = sym (append_assoc (replicate m n) (n ∷ []) s) ∙ ap (λ t. t ++ s) (replicate_more m n)
@@ -174,7 +174,7 @@ module _ (k : ℕ) (even : eqb (k % 2) 1 ≡ false) where
 
   apart_after_pair : (x y : ℕ) (bs : List Block) → joins k x y ≡ true → Apart k y bs
   apart_after_pair x y [] e = tt
-  apart_after_pair x y (b ∷ bs) e = apart_even y (first_of b) (right_joins_none k x y (first_of b) e)
+  apart_after_pair x y (b ∷ bs) e = apart_even y (first_number b) (right_joins_none k x y (first_number b) e)
 
   -- the blocks from a number on begin with it
   apart_pairs : (x y : ℕ) (s : List ℕ) → joins k x y ≡ false → Apart k x (pairs_from k y s)

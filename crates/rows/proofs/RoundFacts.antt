@@ -9,7 +9,7 @@ use Rattle.rows.specs.Laws.{AllInUse, after_rounds}
 use Rattle.rows.specs.Rounds.{Block, one, new, blocks, Filed, then, round, Settled, settled, rounds_from, leaf_block}
 use Rattle.rows.proofs.Ends.{blocks_shorter, blocks_unshortened, some_round_shortens}
 use Rattle.rows.proofs.FilingFacts.{find_known}
-use Rattle.rows.proofs.NamingFacts.{Named, named_append, length_named, named_ones, part_named, file_named, file_all_grows, rounds_stop, rounds_go, rounds_spent, rounds_step}
+use Rattle.rows.proofs.NamingFacts.{Named, named_append, length_named, named_ones, part_named, file_named, file_all_grows, rounds_stop, rounds_go, rounds_spent, rounds_step, after_none, after_next}
 use Rattle.rows.proofs.Parsing.{spelled_append, spelled_blocks, blocks_part}
 
 -- j rounds make t of s on these rows, and add nothing
@@ -30,10 +30,9 @@ comes_shorter rows (suc j) s t c = omega (arith, comes_shorter rows j s c.0 c.1,
 
 -- such rounds are run on the leaves of a strip, on rows that have them
 pub comes_after : (rows : List Row) (j : ℕ) (codes s t : List ℕ) → Named rows (map leaf_block codes) s → Comes rows j s t → after_rounds j rows codes ≡ Some (record { numbers = t; rows = rows })
-unfolding after_rounds
-comes_after rows zero codes s t names c = file_named 0 (map leaf_block codes) rows s names ∙ ap (λ u. Some (record { numbers = u; rows = rows })) c
+comes_after rows zero codes s t names c = after_none rows codes ∙ file_named 0 (map leaf_block codes) rows s names ∙ ap (λ u. Some (record { numbers = u; rows = rows })) c
 comes_after rows (suc j) codes s t names c =
-    ap (λ o. then o (round (suc j))) (comes_after rows j codes s c.0 names c.1) ∙ file_named (suc j) (blocks (suc j) c.0) rows t c.2
+    after_next j rows codes ∙ ap (λ o. then o (round (suc j))) (comes_after rows j codes s c.0 names c.1) ∙ file_named (suc j) (blocks (suc j) c.0) rows t c.2
 
 -- one round of a string of two or more, on rows that have all its blocks
 turn : (rows : List Row) (i most : ℕ) (u t : List ℕ) → 2 ≤ length u → Named rows (blocks (suc i) u) t

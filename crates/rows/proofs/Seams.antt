@@ -4,7 +4,7 @@ use Rattle.std.proofs.Common.{◌≡◌, ℕ, zero, suc, ◌%◌, ◌≤◌, ◌
 use Rattle.std.proofs.lemmas.List.{append-nil}
 use Rattle.std.proofs.lemmas.Bool.{and_from, and_left, and_right, not_from_true, not_from_false, eq-eqb, ne_eqb, cond-true, cond-false}
 use Rattle.rows.specs.declared.Shape.TheVariants.{Leaf, Pair, Repeat}
-use Rattle.rows.specs.Blocks.{symbols, spelled, InRound, first_of, last_of, merges, EndsIn, BeginsWith, first_or, last_or}
+use Rattle.rows.specs.Blocks.{symbols, spelled, InRound, first_number, last_number, merges, EndsIn, BeginsWith, first_or, last_or}
 use Rattle.rows.specs.Rounds.{Block, one, new, is_left, joins, blocks}
 use Rattle.rows.proofs.Parsing.{Apart, Parsed, spelled_append, spelled_blocks, parsed_blocks, blocks_spelled}
 
@@ -22,14 +22,14 @@ last_replicate zero n = refl
 last_replicate (suc m) n = last_replicate m n
 
 -- the ends of a block, and of blocks
-last_symbols : (k d : ℕ) (b : Block) → InRound k b → last_or d (symbols b) ≡ last_of b
+last_symbols : (k d : ℕ) (b : Block) → InRound k b → last_or d (symbols b) ≡ last_number b
 last_symbols k d (one n) kind = refl
 last_symbols k d (new (Leaf code)) kind = absurd kind
 last_symbols k d (new (Pair left right)) kind = refl
 last_symbols k d (new (Repeat part zero)) kind = absurd (let many : 2 ≤ 0 = kind.1 in omega arith)
 last_symbols k d (new (Repeat part (suc m))) kind = last_replicate m part
 
-first_symbols : (k d : ℕ) (b : Block) → InRound k b → first_or d (symbols b) ≡ first_of b
+first_symbols : (k d : ℕ) (b : Block) → InRound k b → first_or d (symbols b) ≡ first_number b
 first_symbols k d (one n) kind = refl
 first_symbols k d (new (Leaf code)) kind = absurd kind
 first_symbols k d (new (Pair left right)) kind = refl
@@ -38,14 +38,14 @@ first_symbols k d (new (Repeat part (suc m))) kind = refl
 
 abbrev last_block : ℕ → List Block → ℕ
 last_block d [] = d
-last_block d (b ∷ bs) = last_block (last_of b) bs
+last_block d (b ∷ bs) = last_block (last_number b) bs
 
 last_spelled : (k d : ℕ) (bs : List Block) → Parsed k bs → last_or d (spelled bs) ≡ last_block d bs
 last_spelled k d [] p = refl
 last_spelled k d (b ∷ bs) p =
-    last_append d (symbols b) (spelled bs) ∙ ap (λ x. last_or x (spelled bs)) (last_symbols k d b p.0) ∙ last_spelled k (last_of b) bs p.2
+    last_append d (symbols b) (spelled bs) ∙ ap (λ x. last_or x (spelled bs)) (last_symbols k d b p.0) ∙ last_spelled k (last_number b) bs p.2
 
-first_spelled : (k d : ℕ) (b : Block) (bs : List Block) → Parsed k (b ∷ bs) → first_or d (spelled (b ∷ bs)) ≡ first_of b
+first_spelled : (k d : ℕ) (b : Block) (bs : List Block) → Parsed k (b ∷ bs) → first_or d (spelled (b ∷ bs)) ≡ first_number b
 first_spelled k d b bs p = first_append d (symbols b) (spelled bs) ∙ first_symbols k (first_or d (spelled bs)) b p.0
 
 -- the blocks on both sides of a seam
@@ -60,13 +60,13 @@ first_from_apart k d x (b ∷ bs) p some a = ap (merges k x) (first_spelled k d 
 parsed_join : (k d : ℕ) (bs cs : List Block) → Parsed k bs → Parsed k cs → Apart k (last_block d bs) cs → Parsed k (bs ++ cs)
 parsed_join k d [] cs p q a = q
 parsed_join k d (b ∷ []) cs p q a = (p.0, a, q)
-parsed_join k d (b ∷ (c ∷ bs)) cs p q a = (p.0, p.1, parsed_join k (last_of b) (c ∷ bs) cs p.2 q a)
+parsed_join k d (b ∷ (c ∷ bs)) cs p q a = (p.0, p.1, parsed_join k (last_number b) (c ∷ bs) cs p.2 q a)
 
 parsed_seam : (k d : ℕ) (bs cs : List Block) → 0 < length (spelled bs) → Parsed k (bs ++ cs) → Apart k (last_block d bs) cs
 parsed_seam k d [] cs some p = absurd (omega arith)
 parsed_seam k d (b ∷ bs) cs some p = go b bs p
   where
-    go : (c : Block) (ds : List Block) → Parsed k ((c ∷ ds) ++ cs) → Apart k (last_block (last_of c) ds) cs
+    go : (c : Block) (ds : List Block) → Parsed k ((c ∷ ds) ++ cs) → Apart k (last_block (last_number c) ds) cs
     go c [] q = q.1
     go c (e ∷ ds) q = go e ds q.2
 

@@ -17,7 +17,7 @@ use Rattle.rows.specs.Strips.{times, strip, expanded}
 use Rattle.rows.proofs.FilingFacts.{find_added, file_grows}
 use Rattle.rows.proofs.KeepFacts.{shape_expanded, comes_keeps, leaves_keep, leaves_known, leaves_split}
 use Rattle.rows.proofs.LawfulFacts.{RowLawful, test_from_row, row_lawful_append, row_lawful, lawful_parts}
-use Rattle.rows.proofs.NamingFacts.{Named, named_append, length_named, file_named, file_all_grows, then_some, rounds_step, settle_parts, settles_by_rounds, settle_grows}
+use Rattle.rows.proofs.NamingFacts.{Named, named_append, length_named, file_named, file_all_grows, then_some, rounds_step, after_none, after_next, settle_parts, settles_by_rounds, settle_grows}
 use Rattle.rows.proofs.Parsing.{spelled_append, spelled_blocks, blocks_part, block_kinds}
 use Rattle.rows.proofs.RoundFacts.{Comes, comes_append, comes_known, comes_settle, fragment_comes, rounds_few, comes_shorter}
 use Rattle.rows.proofs.StripFacts.{Parts, shape_strip, strip_added, written_strip, shape_strip_append, row_added, row_append, strip_none, expanded_one}
@@ -269,16 +269,16 @@ pub record Standing (j : ℕ) (codes : List ℕ) (f : Filed) : Type 0 where
   pub history : Comes f.rows j source f.numbers
 
 pub after_stands : (j : ℕ) (rows : List Row) (codes : List ℕ) (f : Filed) → Lawful rows → length codes ≤ 65535 → after_rounds j rows codes ≡ Some f → Standing j codes f
-unfolding after_rounds
 after_stands zero rows codes f law short h =
+    let filed = sym (after_none rows codes) ∙ h in
     record {
-      lawful = filing_keeps Lawful 0 rows (map leaf_block codes) f (leaves_addable rows codes) law h;
+      lawful = filing_keeps Lawful 0 rows (map leaf_block codes) f (leaves_addable rows codes) law filed;
       source = f.numbers;
-      names = (file_all_grows 0 (map leaf_block codes) rows f h).names;
+      names = (file_all_grows 0 (map leaf_block codes) rows f filed).names;
       history = refl;
     }
 after_stands (suc j) rows codes f law short h =
-    let last = then_some (after_rounds j rows codes) (round (suc j)) f h in
+    let last = then_some (after_rounds j rows codes) (round (suc j)) f (sym (after_next j rows codes) ∙ h) in
     let g = last.0 in
     let before = after_stands j rows codes g law short last.1 in
     let this = file_all_grows (suc j) (blocks (suc j) g.numbers) g.rows f last.2 in

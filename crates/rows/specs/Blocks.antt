@@ -25,17 +25,17 @@ InRound k (new (Pair left right)) = ((k % 2 == 1) ≡ false) × (joins k left ri
 InRound k (new (Repeat part count)) = ((k % 2 == 1) ≡ true) × (2 ≤ count)
 
 -- the first and the last number of a block; a leaf is read from codes, not from a string, and 0 stands for its ends
-abbrev pub first_of : Block → ℕ
-first_of (one n) = n
-first_of (new (Leaf code)) = 0
-first_of (new (Pair left right)) = left
-first_of (new (Repeat part count)) = part
+abbrev pub first_number : Block → ℕ
+first_number (one n) = n
+first_number (new (Leaf code)) = 0
+first_number (new (Pair left right)) = left
+first_number (new (Repeat part count)) = part
 
-abbrev pub last_of : Block → ℕ
-last_of (one n) = n
-last_of (new (Leaf code)) = 0
-last_of (new (Pair left right)) = right
-last_of (new (Repeat part count)) = part
+abbrev pub last_number : Block → ℕ
+last_number (one n) = n
+last_number (new (Leaf code)) = 0
+last_number (new (Pair left right)) = right
+last_number (new (Repeat part count)) = part
 
 -- whether neighbours x and y belong in one block of round k: equal numbers in odd rounds, a left number and then a
 -- right one in even rounds
@@ -44,7 +44,7 @@ merges k x y = cond (k % 2 == 1) (y == x) (joins k x y)
 
 -- no two neighbouring blocks would merge, the last number of the one with the first of the next
 abbrev pub NoneMerge : ℕ → List Block → Type 0
-NoneMerge k bs = (before after : List Block) (a b : Block) → bs ≡ before ++ (a ∷ b ∷ after) → merges k (last_of a) (first_of b) ≡ false
+NoneMerge k bs = (before after : List Block) (a b : Block) → bs ≡ before ++ (a ∷ b ∷ after) → merges k (last_number a) (first_number b) ≡ false
 
 -- blocks cut a string up as round k does: they spell it, each is of the round's form, and no two neighbours would merge
 pub record CutUp (k : ℕ) (numbers : List ℕ) (bs : List Block) : Type 0 where

@@ -54,17 +54,27 @@ abbrev pub RoundsShorten : Type 0
 RoundsShorten = (k : ℕ) (f : Filed) (s : Settled) → length f.rows ≤ 1024 → AllInUse f.rows f.numbers → 2 ≤ length f.numbers
     → rounds_from 44 k f ≡ Some s → length s.numbers < length f.numbers
 
--- what the first j rounds make of a strip: its leaves, and then rounds 1 to j
+-- what rounds 1 to j make of a string: what is left of it, and the rows
+unfoldable pub rounds_run : ℕ → Filed → Option Filed
+rounds_run zero f = Some f
+rounds_run (suc j) f = then (rounds_run j f) (round (suc j))
+
+-- what they make of a strip: its leaves are the string
 unfoldable pub after_rounds : ℕ → List Row → List ℕ → Option Filed
-after_rounds zero rows codes = leaves rows codes
-after_rounds (suc j) rows codes = then (after_rounds j rows codes) (round (suc j))
+after_rounds j rows codes = then (leaves rows codes) (rounds_run j)
+
+-- the rounds on any string, with any limit on their count, stop at the first string of at most one number: after fewer
+-- rounds two or more are left
+abbrev pub StringStopsFirst : Type 0
+StringStopsFirst = (most : ℕ) (f : Filed) (s : Settled) (j : ℕ) → rounds_from most 0 f ≡ Some s → j < s.rounds
+    → (g : Filed) × (rounds_run j f ≡ Some g) × (2 ≤ length g.numbers)
 
 -- what settling leaves is what the rounds that it ran leave
 abbrev pub SettlesByRounds : Type 0
 SettlesByRounds = (rows : List Row) (codes : List ℕ) (s : Settled) → settle rows codes ≡ Some s
     → after_rounds s.rounds rows codes ≡ Some (record { numbers = s.numbers; rows = s.rows })
 
--- the rounds stop at the first string of at most one number: after fewer rounds two or more are left
+-- so do those on a strip
 abbrev pub StopsFirst : Type 0
 StopsFirst = (rows : List Row) (codes : List ℕ) (s : Settled) (j : ℕ) → settle rows codes ≡ Some s → j < s.rounds
     → (f : Filed) × (after_rounds j rows codes ≡ Some f) × (2 ≤ length f.numbers)

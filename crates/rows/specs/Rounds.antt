@@ -93,7 +93,8 @@ leaf_block code = new (Leaf code)
 abbrev pub leaves : List Row → List ℕ → Option Filed
 leaves rows codes = file_all 0 (map leaf_block codes) rows
 
--- any 44 rounds shorten a string of two or more numbers, so that this many rounds are enough
+-- any 44 rounds on end shorten a string of two or more numbers from 1 to 1,024, which those of all rows are, so that this
+-- many rounds are enough for it. Other numbers may never pair, as 1 and 2,049 do not
 abbrev pub enough_rounds : ℕ → ℕ
 enough_rounds n = 44 * n
 

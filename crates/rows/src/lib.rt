@@ -20,6 +20,7 @@ ghost use Rattle.rows.specs.Laws.{
   RoundKeepsStrip,
   RoundsShorten,
   SettlesByRounds,
+  StringStopsFirst,
   StopsFirst,
   NoRounds,
   RoundsKept,
@@ -41,11 +42,13 @@ pub enum Shape {
     Repeat { part: u16, times: u16 },
 }
 
-/// A row also keeps the length of its strip and the round that makes it; a leaf has round 0.
+/// A row also keeps the length of its strip and the round that makes it.
 #[derive(Clone, Copy, PartialEq, Eq, Debug)]
 pub struct Row {
     pub shape: Shape,
+    /// In cells.
     pub length: u16,
+    /// Counted from 1; 0 for a leaf.
     pub round: u32,
 }
 
@@ -66,9 +69,14 @@ pub const MAX_CELLS: usize = 65_535;
 /// most one number (`end`), that writes the strip (`strip`); the rows are lawful again and begin with those of before
 /// (`rows`); on all rows that come after, the strip settles alike (`replay`). Of one round: it keeps the strip (`keep`),
 /// and any 44 on end shorten a string of two or more (`shorten`). Of their count: what settling leaves is what so many
-/// rounds leave (`run`), and fewer leave two numbers or more (`first`); at most one cell takes none (`none`); and the
-/// number's row keeps the count (`kept`). Between rounds the rows are lawful (`between`), and each part of the string
-/// stands for a fragment of the strip that comes to it alone (`fragments`).
+/// rounds leave (`run`); of any string, fewer than were run leave two numbers or more (`string_first`), and so of a strip
+/// (`first`); at most one cell takes none (`none`); and the number's row keeps the count (`kept`). Between rounds the rows
+/// are lawful (`between`), and each part of the string stands for a fragment of the strip that comes to it alone
+/// (`fragments`).
+///
+/// `end`, `strip`, `rows`, `kept`, `between` and `fragments` are of strips of at most 65,535 codes on lawful rows; `keep`
+/// is of strings of numbers of lawful rows, and `shorten` of strings of known numbers on at most 1,024 rows. The others
+/// are of all strips, strings and rows.
 pub fn laws_of_rounds()
     // What settling a strip leaves.
     ensures end { RoundsEnd }
@@ -82,6 +90,7 @@ pub fn laws_of_rounds()
 
     // How many rounds are run.
     ensures run { SettlesByRounds }
+    ensures string_first { StringStopsFirst }
     ensures first { StopsFirst }
     ensures none { NoRounds }
     ensures kept { RoundsKept }

@@ -7,11 +7,11 @@ use Rattle.rows.specs.Filing.{row_of}
 use Rattle.rows.specs.Lawful.{Lawful}
 use Rattle.rows.specs.Rounds.{settle}
 use Rattle.rows.specs.Strips.{strip, leaf_string}
+use Rattle.rows.proofs.Counts.{settle_from_leaves}
 use Rattle.rows.proofs.LeafFacts.{LeavesOf, leaves_append, leaves_take, leaves_drop, length_leaves, leaf_string_names, leaves_found}
 use Rattle.recompression.specs.Expansions.{written_out}
 use Rattle.recompression.specs.Settlements.{all_rounds}
 use Rattle.shelf.proofs.RowFacts.{kept_length}
-use Rattle.shelf.proofs.Settlings.{settle_from_leaves}
 
 -- the rounds on leaf numbers are those on the strip that they are the leaves of
 pub settles_leaves : (rows : List Row) (codes numbers : List ℕ) → LeavesOf rows codes numbers → settle rows codes ≡ all_rounds rows numbers

@@ -11,6 +11,7 @@ use Rattle.book.specs.Laws.{OfKind, Stays, WritesCells, PartsKeep}
 use Rattle.rows.specs.declared.Row.{Row}
 use Rattle.rows.specs.Rounds.{Settled, number_left, then, rounds_from, leaf_block, leaves, enough_rounds, settle}
 use Rattle.rows.specs.Strips.{strip}
+use Rattle.rows.proofs.Counts.{settle_from_leaves}
 use Rattle.rows.proofs.NamingFacts.{length_named, file_all_grows}
 use Rattle.recompression.specs.Settlements.{all_rounds}
 use Rattle.shelf.specs.declared.refusal.Refusal.{Refusal}
@@ -41,14 +42,6 @@ refusal_apart WorkAreaTooShort n is = told_apart 4 n is
 refusal_apart ShelfFull n is = told_apart 5 n is
 refusal_apart UnknownNumber n is = told_apart 6 n is
 refusal_apart FragmentLeavesStrip n is = told_apart 7 n is
-
--- the rounds on the leaves of a strip are what the strip settles to
-pub settle_from_leaves : (old rows : List Row) (codes numbers : List ℕ) → leaves old codes ≡ Some (record { numbers = numbers; rows = rows }) → settle old codes ≡ all_rounds rows numbers
-unfolding settle
-settle_from_leaves old rows codes numbers h =
-    let grown = file_all_grows 0 (map leaf_block codes) old (record { numbers = numbers; rows = rows }) h in
-    let many : length codes ≡ length numbers = sym (length_named rows (map leaf_block codes) numbers grown.names ∙ length-map codes leaf_block) in
-    ap (λ o. then o (rounds_from (enough_rounds (length codes)) 0)) h ∙ ap (λ n. rounds_from (enough_rounds n) 0 (record { numbers = numbers; rows = rows })) many
 
 module _ (old rows : List Row) (codes numbers : List ℕ) (filed : leaves old codes ≡ Some (record { numbers = numbers; rows = rows })) (short : length numbers ≤ 65535) where
   kept : take (length old) rows ≡ old

@@ -1,6 +1,6 @@
 -- The laws of the rounds, from the theory. Assumes nothing.
 use Rattle.std.proofs.Common.{refl}
-use Rattle.rows.proofs.Counts.{stops_first, no_rounds, rounds_kept}
+use Rattle.rows.proofs.Counts.{stops_first, string_stops_first, no_rounds, rounds_kept}
 use Rattle.rows.proofs.NamingFacts.{settle_replay, settles_by_rounds}
 use Rattle.rows.proofs.OneNumber.{settled_stands}
 use Rattle.rows.proofs.RoundFacts.{rounds_shorten}
@@ -19,6 +19,7 @@ returns c =
       keep = round_keeps_strip;
       shorten = λ k f s few known long is. rounds_shorten k f.rows f.numbers s few known long is;
       run = settles_by_rounds;
+      string_first = string_stops_first;
       first = stops_first;
       none = no_rounds;
       kept = rounds_kept;
