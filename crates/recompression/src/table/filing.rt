@@ -1,7 +1,7 @@
 //! How a shape gets its number: the first row of that shape, or a row added after the others.
 ghost use Rattle.std.specs.Prelude.{◌≡◌, take, None};
 ghost use Rattle.recompression.specs.Contents.{FilesAs, rows_in, number_in, rows_left};
-ghost use Rattle.rows.specs.Filing.{alike, find, file, numbered, shape_length, whole_length};
+ghost use Rattle.rows.specs.Filing.{find, file, numbered, shape_length, whole_length};
 
 use crate::table::Table;
 use rows::{MAX_CELLS, MAX_ROWS, Row, Shape};
@@ -60,7 +60,7 @@ impl Table {
         ensures number { result ≡ number_in (file round (rows_in self.old) shape) }
         ensures rows { rows_in self.new ≡ rows_left (rows_in self.old) (file round (rows_in self.old) shape) }
     {
-        // No `or_else`, whose contract says nothing of the table where its closure is not called: `rows` was left open.
+        // A `match`, since the contract of `or_else` says nothing of the table where its closure is not called.
         match self.find(shape) {
             Some(number) => Some(number),
             None => self.add(round, shape),

@@ -1,6 +1,6 @@
 //! One round, run in place: the string is cut into blocks from left to right, and each block that is a shape gets
 //! its number.
-ghost use Rattle.std.specs.Prelude.{◌≡◌, ◌<◌, ◌≤◌, ◌∷◌, length};
+ghost use Rattle.std.specs.Prelude.{◌<◌, ◌≤◌, ◌∷◌, length};
 ghost use Rattle.recompression.specs.Contents.{FilesAs, rows_in};
 ghost use Rattle.recompression.specs.InPlace.{IsFirst, Ran, block_of, file_block};
 ghost use Rattle.rows.specs.Rounds.{blocks};
