@@ -1,12 +1,16 @@
 -- Rounds run one after another in place, and what the last of them leaves. Assumes nothing.
-use Rattle.std.proofs.Common.{◌≡◌, ℕ, suc, ◌+◌, ◌-◌, ◌%◌, ◌<◌, ◌≤◌, eqb, ◌⊎◌, List, ◌++◌, length, take, drop, Some, None, sym, refl, ap, ◌∙◌, subst, inl, inr, arith, length-take, length-append, length-drop}
+use Rattle.std.proofs.Common.{◌≡◌, ℕ, suc, ◌+◌, ◌-◌, ◌%◌, ◌<◌, ◌≤◌, ltb, eqb, ◌⊎◌, List, ◌++◌, length, take, drop, Some, None, Ok, Err, Option, Result, sym, refl, ap, ◌∙◌, subst, inl, inr, arith, length-take, length-append, length-drop}
 use Rattle.std.proofs.lemmas.List.{take-take, take-append-le, length-take-le}
-use Rattle.std.proofs.lemmas.Bool.{cond-true, cond-false, eq-eqb, ne_eqb}
+use Rattle.std.proofs.lemmas.Bool.{cond_both, cond-true, cond-false, eq-eqb, ne_eqb}
 use Rattle.rows.specs.declared.Row.{Row}
-use Rattle.rows.specs.Rounds.{blocks, stretches, pairs, then, file_all, rounds_from}
+use Rattle.rows.specs.Rounds.{blocks, stretches, pairs, then, file_all, Settled, rounds_from, enough_rounds}
+use Rattle.rows.proofs.Counts.{string_stops_first, settle_from_leaves, rounds_kept}
 use Rattle.rows.proofs.NamingFacts.{file_all_grows, rounds_stop, rounds_go, rounds_spent}
 use Rattle.recompression.specs.InPlace.{Ran}
-use Rattle.recompression.specs.Settlements.{all_rounds, reached_with, RunThrough}
+use Rattle.recompression.specs.Settlements.{all_rounds, reached_with, reached, settlement_of, settlement, RunThrough, StopsFirstAt, KeepsRounds}
+use Rattle.recompression.specs.declared.table.settle.Reached.{Reached}
+use Rattle.recompression.specs.declared.table.settle.Unsettled.{Unsettled}
+use Rattle.recompression.specs.declared.table.settle.Unsettled.TheVariants.{TooLong, Full}
 use Rattle.recompression.proofs.RoundFacts.{begins_with_more}
 
 pub odd_blocks : (k : ℕ) (s : List ℕ) → k % 2 ≡ 1 → stretches s ≡ blocks k s
@@ -63,3 +67,31 @@ module _ {first : List Row} {old : List ℕ} {most k size : ℕ} {rows : List Ro
       last : (size < 2) ⊎ (most ≤ k) → rounds_from (most - k) k (record { numbers = take size numbers; rows = rows }) ≡ Some (record { numbers = take size numbers; rows = rows; rounds = k })
       last (inl short) = rounds_stop (most - k) k (record { numbers = take size numbers; rows = rows }) (omega (arith, string_long))
       last (inr over) = let z : most - k ≡ 0 = omega arith in ap (λ n. rounds_from n k (record { numbers = take size numbers; rows = rows })) z ∙ rounds_spent k (record { numbers = take size numbers; rows = rows })
+
+-- what holds of each string that the rounds come to the end of holds of what is answered of a string
+module _ (rows : List Row) (numbers : List ℕ) (holds : Result Reached Unsettled → List Row → Type 0) (of_refused : (e : Unsettled) → holds (Err e) rows)
+    (of_reached : (s : Settled) → all_rounds rows numbers ≡ Some s → holds (Ok (reached s)) s.rows) where
+  of_settlement_of : (o : Option Settled) → all_rounds rows numbers ≡ o → holds (settlement_of rows o).answer (settlement_of rows o).rows
+  of_settlement_of None is = of_refused Full
+  of_settlement_of (Some s) is = of_reached s is
+
+  of_settlement : holds (settlement rows numbers).answer (settlement rows numbers).rows
+  of_settlement = cond_both (ltb 65535 (length numbers)) (record { answer = Err TooLong; rows = rows }) (settlement_of rows (all_rounds rows numbers)) (λ t. holds t.answer t.rows)
+      (λ e. of_refused TooLong) (λ e. of_settlement_of (all_rounds rows numbers) refl)
+
+-- the laws of the rounds, of what is answered of a string
+first_of_all : (rows : List Row) (numbers : List ℕ) → StopsFirstAt rows numbers (settlement rows numbers).answer
+first_of_all rows numbers = of_settlement rows numbers (λ answer after. StopsFirstAt rows numbers answer) (λ e. tt)
+    (λ s is j below. string_stops_first (enough_rounds (length numbers)) (record { numbers = numbers; rows = rows }) s j is below)
+
+pub stops_first_at : (rows : List Row) (numbers : List ℕ) (r : Result Reached Unsettled) → r ≡ (settlement rows numbers).answer → StopsFirstAt rows numbers r
+stops_first_at rows numbers r is = subst (StopsFirstAt rows numbers) (sym is) (first_of_all rows numbers)
+
+kept_of_all : (rows : List Row) (numbers : List ℕ) → KeepsRounds rows numbers (settlement rows numbers).answer (settlement rows numbers).rows
+kept_of_all rows numbers = of_settlement rows numbers (KeepsRounds rows numbers) (λ e. tt)
+    (λ s is old codes law short filed. rounds_kept old codes s law short (settle_from_leaves old rows codes numbers filed ∙ is))
+
+pub keeps_rounds : (rows : List Row) (numbers : List ℕ) (r : Result Reached Unsettled) (after : List Row) → r ≡ (settlement rows numbers).answer → after ≡ (settlement rows numbers).rows
+    → KeepsRounds rows numbers r after
+keeps_rounds rows numbers r after is left =
+    subst (λ a. KeepsRounds rows numbers a after) (sym is) (subst (KeepsRounds rows numbers (settlement rows numbers).answer) (sym left) (kept_of_all rows numbers))

@@ -1,7 +1,10 @@
 -- What the rounds, run on a string of numbers, answer and leave. Assumes nothing.
-use Rattle.std.specs.Prelude.{◌≡◌, ℕ, cond, List, length, take, Some, None, Ok, Err, Option, Result, nat_lt}
+use Rattle.std.specs.Prelude.{◌≡◌, ℕ, ◌<◌, ◌≤◌, cond, List, length, take, Some, None, Ok, Err, Option, Result, nat_lt}
 use Rattle.rows.specs.declared.Row.{Row}
-use Rattle.rows.specs.Rounds.{Settled, rounds_from, enough_rounds, number_left}
+use Rattle.rows.specs.Filing.{row_of}
+use Rattle.rows.specs.Laws.{rounds_run}
+use Rattle.rows.specs.Lawful.{Lawful}
+use Rattle.rows.specs.Rounds.{Filed, Settled, rounds_from, leaves, enough_rounds, number_left}
 use Rattle.recompression.specs.declared.table.settle.Reached.{Reached}
 use Rattle.recompression.specs.declared.table.settle.Unsettled.{Unsettled}
 use Rattle.recompression.specs.declared.table.settle.Unsettled.TheVariants.{TooLong, Full}
@@ -36,3 +39,16 @@ settlement rows numbers = cond (nat_lt 65535 (length numbers)) (record { answer 
 abbrev pub RunThrough : List Row → List ℕ → Option Reached → List Row → Type 0
 RunThrough rows numbers (Some r) after = (s : Settled) × (all_rounds rows numbers ≡ Some s) × (r ≡ reached s) × (after ≡ s.rows)
 RunThrough rows numbers None after = (all_rounds rows numbers ≡ None) × (take (length rows) after ≡ rows)
+
+-- no round is run on a string of at most one number: after fewer rounds than are answered two or more are left
+abbrev pub StopsFirstAt : List Row → List ℕ → Result Reached Unsettled → Type 0
+StopsFirstAt rows numbers (Err e) = Unit {0}
+StopsFirstAt rows numbers (Ok r) = (j : ℕ) → j < r.rounds
+    → (f : Filed) × (rounds_run j (record { numbers = numbers; rows = rows }) ≡ Some f) × (2 ≤ length f.numbers)
+
+-- where the numbers are the leaves of a strip of at most 65,535 codes, filed on lawful rows, the row of the number
+-- answered keeps the rounds answered
+abbrev pub KeepsRounds : List Row → List ℕ → Result Reached Unsettled → List Row → Type 0
+KeepsRounds rows numbers (Err e) after = Unit {0}
+KeepsRounds rows numbers (Ok r) after = (old : List Row) (codes : List ℕ) → Lawful old → length codes ≤ 65535
+    → leaves old codes ≡ Some (record { numbers = numbers; rows = rows }) → (row_of after r.number).round ≡ r.rounds

@@ -3,7 +3,7 @@
 ghost use Rattle.std.specs.Prelude.{◌≡◌, ◌≤◌, length, replicate};
 ghost use Rattle.recompression.specs.Contents.{rows_in};
 ghost use Rattle.rows.specs.Rounds.{enough_rounds};
-ghost use Rattle.recompression.specs.Settlements.{RunThrough, all_rounds, reached_with, settlement, settlement_of};
+ghost use Rattle.recompression.specs.Settlements.{KeepsRounds, RunThrough, StopsFirstAt, all_rounds, reached_with, settlement, settlement_of};
 
 use crate::table::Table;
 use rows::MAX_CELLS;
@@ -82,9 +82,12 @@ impl Table {
     /// done in the slice, which is all zeros afterwards, also where the string is refused; the rows are then as they
     /// were.
     // The length is tested once, here: a struct over the slice would hold the `&mut` that `fill` needs back.
+    #[tactic(auto, using(crate::proofs::SettleFacts::stops_first_at, crate::proofs::SettleFacts::keeps_rounds))]
     pub fn settle(&mut self, numbers: &mut [u16]) -> Result<Reached, Unsettled>
         ensures answer { result ≡ (settlement (rows_in self.old) numbers.old).answer }
         ensures rows { rows_in self.new ≡ (settlement (rows_in self.old) numbers.old).rows }
+        ensures first { StopsFirstAt (rows_in self.old) numbers.old result }
+        ensures kept { KeepsRounds (rows_in self.old) numbers.old result (rows_in self.new) }
         ensures cleared { numbers.new ≡ replicate (length numbers.old) 0 }
     {
         let answer = if numbers.len() > MAX_CELLS {
