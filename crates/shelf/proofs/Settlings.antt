@@ -12,7 +12,7 @@ use Rattle.rows.specs.declared.Row.{Row}
 use Rattle.rows.specs.Rounds.{Settled, number_left, then, rounds_from, leaf_block, leaves, enough_rounds, settle}
 use Rattle.rows.specs.Strips.{strip}
 use Rattle.rows.proofs.Counts.{settle_from_leaves}
-use Rattle.rows.proofs.NamingFacts.{length_named, file_all_grows}
+use Rattle.rows.proofs.NamingFacts.{file_all_grows}
 use Rattle.recompression.specs.Settlements.{all_rounds}
 use Rattle.shelf.specs.declared.refusal.Refusal.{Refusal}
 use Rattle.shelf.specs.declared.refusal.Refusal.TheVariants.{OtherKind, TooLong, Unprintable, WorkAreaTooShort, ShelfFull, UnknownNumber, FragmentLeavesStrip}
