@@ -1,23 +1,23 @@
 -- Parts of leaf strings written out one after the other: those of a leaf, of a pair by where its left part
 -- ends, and of a repeat copy by copy. Assumes nothing.
-use Rattle.std.proofs.Common.{◌≡◌, ℕ, zero, suc, ◌+◌, ◌-◌, ◌*◌, ◌/◌, ◌%◌, ◌<◌, ◌≤◌, min, List, [], ◌∷◌, ◌++◌, length, take, drop, set, sym, refl, ap, ◌∙◌, subst, inl, inr, mod-lt, mod-eq_of_lt, arith, length-append, length-drop}
+use Rattle.std.proofs.Common.{◌≡◌, ℕ, zero, suc, ◌+◌, ◌-◌, ◌*◌, ◌%◌, ◌<◌, ◌≤◌, min, List, [], ◌∷◌, ◌++◌, length, take, drop, set, sym, refl, ap, Some, ◌∙◌, subst, inl, inr, mod-lt, mod-eq_of_lt, arith, length-append, length-drop}
 use native.Mathlib.Nat.{mod-eq-sub-mod}
 use borrow.Rule.Slice.PartMut.{put_mid}
 use Rattle.std.proofs.lemmas.List.{append-nil, drop-append-le, drop-drop, nil_from_length, take_all, take-append-le, length-take-le}
 use Rattle.std.proofs.lemmas.Slice.{take-put_mid}
 use Rattle.std.proofs.lemmas.Bool.{cases_lt}
-use Rattle.std.proofs.lemmas.Nat.{div-add-mod', mod-mul-add}
-use Rattle.std.proofs.Math.Nat.{add-mod_right}
 use Rattle.std.proofs.Math.Seq.{take-add, drop-append-add, take-append-add}
 use Rattle.rows.specs.declared.Shape.{Shape}
 use Rattle.rows.specs.declared.Shape.TheVariants.{Leaf, Pair, Repeat}
 use Rattle.rows.specs.declared.Row.{Row}
-use Rattle.rows.specs.Filing.{row_of}
+use Rattle.rows.specs.Filing.{row_of, shape_length}
 use Rattle.rows.specs.Strips.{times, leaf_string}
-use Rattle.recompression.specs.Expansions.{part_length, written_out, Asked}
+use Rattle.recompression.specs.Contents.{row_at}
+use Rattle.recompression.specs.Expansions.{part_length, copies_out, written_out, Asked}
 use Rattle.recompression.specs.Tables.{LengthsKept}
 use Rattle.recompression.proofs.LeafFacts.{part_string, shape_leaves, leaf_string_of_row, leaves_kept, part_kept, part_known}
-use Rattle.recompression.proofs.LengthFacts.{length_times}
+use Rattle.recompression.proofs.SlotFacts.{row_of_some}
+use Rattle.recompression.proofs.LengthFacts.{capped_product, length_times}
 
 -- past the first of two lists
 drop_past : (xs ys : List ℕ) (n : ℕ) → length xs ≤ n → drop n (xs ++ ys) ≡ drop (n - length xs) ys
@@ -110,19 +110,54 @@ copy_part_within m xs place count limit is inside fits = elim (cases_lt 65535 (l
       copy_part m xs place count (omega arith) (omega arith) ∙ ap (λ i. take count (drop i xs)) (there ∙ sym here)
 ]
 
--- the next whole copy begins at a place that the length of a copy divides
-up_to_copy : (a w : ℕ) → 0 < w → (a + (w - a % w)) % w ≡ 0
-up_to_copy a w some =
-    let parts = div-add-mod' a w in
-    let below = mod-lt a some in
-    let e : a + (w - a % w) ≡ suc (a / w) * w + 0 = omega arith in
-    ap (λ b. b % w) e ∙ mod-mul-add (suc (a / w)) w 0 some
-
--- copies are written out, and the next of them begins at place `copy`
-pub record Copied (rows : List Row) (n start limit count copy : ℕ) (out : List ℕ) : Type 0 where
+-- copies are written out as far as `filled`
+pub record Copied (rows : List Row) (n m start count filled : ℕ) (out : List ℕ) : Type 0 where
   pub long : length out ≡ count
-  pub done : take copy out ≡ written_out rows n start (min copy count)
-  pub whole : copy < count → (start + copy) % limit ≡ 0
+  pub within : filled ≤ count
+  pub done : take filled out ≡ copies_out rows n m start filled
+
+-- what falls in the calls: a number that no place is asked of is not looked into
+abbrev pub calls_left : ℕ → ℕ → ℕ
+calls_left zero n = 0
+calls_left (suc count) n = 2 * n
+
+calls_left_le : (count n : ℕ) → calls_left count n ≤ 2 * n
+calls_left_le zero n = omega arith
+calls_left_le (suc count) n = omega arith
+
+pub calls_left_some : (count n : ℕ) → 0 < count → calls_left count n ≡ 2 * n
+calls_left_some zero n more = absurd (omega arith)
+calls_left_some (suc count) n more = refl
+
+-- copies of a number's strip are as long as a row that repeats it
+copies_long : (rows : List Row) → LengthsKept rows → (n m : ℕ) → shape_length rows (Repeat n m) ≡ min 65535 (m * length (leaf_string rows n))
+copies_long rows kept n m = ap (λ a. min 65535 (a * m)) (leaves_kept rows kept n) ∙ capped_product (length (leaf_string rows n)) m
+
+-- a part is its own one copy, and is below its row where any place is asked of it
+part_asked : (rows : List Row) → LengthsKept rows → (n part from size : ℕ) → size ≤ part_length rows n part - from → size ≤ shape_length rows (Repeat part 1) - from
+part_asked rows kept n part from size fits = elim (cases_lt 0 (part_length rows n part)) [
+  | inl some ↦ (let known = part_known rows n part some in let long = leaves_kept rows kept part in omega (arith, known.1))
+  | inr none ↦ omega arith
+]
+
+part_falls : (rows : List Row) → LengthsKept rows → (n part from size : ℕ) → 0 < n → size ≤ part_length rows n part - from → calls_left size part < 2 * n - 1
+part_falls rows kept n part from zero some fits = omega arith
+part_falls rows kept n part from (suc size) some fits = let known = part_known rows n part (omega arith) in omega (arith, known.0)
+
+part_out : (rows : List Row) → LengthsKept rows → (n part from size : ℕ) → size ≤ part_length rows n part - from → copies_out rows part 1 from size ≡ take size (drop from (part_string rows n part))
+part_out rows kept n part from zero fits = refl
+part_out rows kept n part from (suc size) fits =
+    let known = part_known rows n part (omega arith) in
+    ap (λ xs. take (suc size) (drop from xs)) (append-nil (leaf_string rows part) ∙ sym known.2)
+
+copies_some : (rows : List Row) (n m start count : ℕ) → count ≤ shape_length rows (Repeat n m) - start → 0 < count → 0 < (row_of rows n).length
+copies_some rows n m start count fits more = elim (cases_lt 0 (row_of rows n).length) [
+  | inl some ↦ some
+  | inr none ↦
+      let empty : (row_of rows n).length ≡ 0 = omega arith in
+      let zeros : (row_of rows n).length * m ≡ 0 * m = ap (λ l. l * m) empty in
+      absurd (omega arith)
+]
 
 module _ {rows : List Row} {n start : ℕ} (kept : LengthsKept rows) where
   -- the leaf string of a row that is asked for
@@ -148,122 +183,92 @@ module _ {rows : List Row} {n start : ℕ} (kept : LengthsKept rows) where
       ∙ sym (ap (λ m. written_out rows n start (suc m)) alone ∙ ap (λ i. written_out rows n i 1) first ∙ ap (take 1) string)
 
   module _ {left right count : ℕ} (asked : Asked rows n (Pair left right) start count) (split : ℕ) (at : split ≡ min (part_length rows n left - start) count) where
-    -- what the right part is asked for
-    pub right_fits : split < count → (right < n) × (start - part_length rows n left + (count - split) ≤ (row_of rows right).length) × (part_string rows n right ≡ leaf_string rows right)
-    right_fits more =
+    left_fits : split ≤ part_length rows n left - start
+    left_fits = omega arith
+
+    right_fits : count - split ≤ part_length rows n right - (start - part_length rows n left)
+    right_fits =
         let a = part_kept rows kept n left in
         let b = part_kept rows kept n right in
         let all = kept_is asked in
         let both = length-append (part_string rows n left) (part_string rows n right) in
-        let fits : start - part_length rows n left + (count - split) ≤ part_length rows n right = omega (arith, asked.within) in
-        let part = part_known rows n right (omega arith) in
-        (part.0, subst (λ m. start - part_length rows n left + (count - split) ≤ m) part.1 fits, part.2)
+        omega (arith, asked.within)
 
-    pair_parts : take split (drop start (part_string rows n left)) ++ take (count - split) (drop (start - part_length rows n left) (part_string rows n right))
-        ≡ written_out rows n start count
-    pair_parts =
-        two_parts (part_string rows n left) (part_string rows n right) start count (part_length rows n left) split (part_kept rows kept n left) (few asked) at
+    pub right_asked : (count - split ≤ shape_length rows (Repeat right 1) - (start - part_length rows n left)) × (calls_left (count - split) right < 2 * n - 1)
+    right_asked =
+        let from = start - part_length rows n left in
+        (part_asked rows kept n right from (count - split) right_fits, part_falls rows kept n right from (count - split) asked.some right_fits)
+
+    pub pair_out : copies_out rows left 1 start split ++ copies_out rows right 1 (start - part_length rows n left) (count - split) ≡ written_out rows n start count
+    pair_out =
+        let from = start - part_length rows n left in
+        ap (λ xs. xs ++ copies_out rows right 1 from (count - split)) (part_out rows kept n left start split left_fits)
+        ∙ ap (λ xs. take split (drop start (part_string rows n left)) ++ xs) (part_out rows kept n right from (count - split) right_fits)
+        ∙ two_parts (part_string rows n left) (part_string rows n right) start count (part_length rows n left) split (part_kept rows kept n left) (few asked) at
         ∙ ap (λ xs. take count (drop start xs)) (sym (string_is asked))
 
-    -- the front is that of the left part, written or with no place
-    pub front_written : (ys : List ℕ) (size : ℕ) → 0 < size → size ≡ split → ys ≡ written_out rows left start size → ys ≡ take split (drop start (part_string rows n left))
-    front_written ys size more same is =
-        let part = part_known rows n left (omega arith) in
-        is ∙ ap (λ m. written_out rows left start m) same ∙ ap (λ xs. take split (drop start xs)) (sym part.2)
-
-    pub front_empty : (ys : List ℕ) → length ys ≡ split → split ≡ 0 → ys ≡ take split (drop start (part_string rows n left))
-    front_empty ys same none = nil_from_length ys (same ∙ none) ∙ sym (ap (λ m. take m (drop start (part_string rows n left))) none)
-
-    -- and the back that of the right part
-    pub pair_out : (front ys : List ℕ) (from size : ℕ) → front ≡ take split (drop start (part_string rows n left)) → split < count → from ≡ start - part_length rows n left → size ≡ count - split
-        → ys ≡ written_out rows right from size → front ++ ys ≡ written_out rows n start count
-    pair_out front ys from size first more begin same is =
-        let whole : ys ≡ written_out rows right (start - part_length rows n left) (count - split) = is ∙ ap (λ m. written_out rows right from m) same ∙ ap (λ i. written_out rows right i (count - split)) begin in
-        ap (λ xs. xs ++ ys) first
-        ∙ ap (λ xs. take split (drop start (part_string rows n left)) ++ xs) (whole ∙ ap (λ xs. take (count - split) (drop (start - part_length rows n left) xs)) (sym (right_fits more).2))
-        ∙ pair_parts
-
-    pub pair_front_out : (front ys : List ℕ) → front ≡ take split (drop start (part_string rows n left)) → length ys ≡ 0 → count ≤ split → front ++ ys ≡ written_out rows n start count
-    pair_front_out front ys first empty enough =
-        let none : count - split ≡ 0 = omega arith in
-        ap (λ xs. front ++ xs) (nil_from_length ys empty ∙ ap (λ m. take m (drop (start - part_length rows n left) (part_string rows n right))) (sym none))
-        ∙ ap (λ xs. xs ++ take (count - split) (drop (start - part_length rows n left) (part_string rows n right))) first
-        ∙ pair_parts
-
-  module _ {part m count limit : ℕ} (asked : Asked rows n (Repeat part m) start count) (more : 0 < count) (is : limit ≡ part_length rows n part) where
+  module _ {part m count : ℕ} (asked : Asked rows n (Repeat part m) start count) (more : 0 < count) where
     repeat_long : (row_of rows n).length ≡ min 65535 (m * length (part_string rows n part))
     repeat_long = kept_is asked ∙ ap (min 65535) (length_times m (part_string rows n part))
 
-    -- a part that is asked for anything has a length, and is below its row
-    pub repeat_part : (0 < limit) × (part < n) × (limit ≡ (row_of rows part).length)
-    repeat_part =
-        let long : 0 < part_length rows n part =
-        elim (cases_lt 0 (part_length rows n part)) [
-          | inl some ↦ some
-          | inr none ↦
-              let empty : length (part_string rows n part) ≡ 0 = let p = part_kept rows kept n part in omega arith in
-              let zeros : m * length (part_string rows n part) ≡ m * 0 = ap (λ l. m * l) empty in
-              absurd (omega (arith, repeat_long, asked.within))
-        ] in
-        let known = part_known rows n part long in
-        (omega arith, known.0, is ∙ known.1)
+    -- a part that is asked for anything is below its row
+    repeat_part : (part < n) × (part_string rows n part ≡ leaf_string rows part)
+    repeat_part = elim (cases_lt 0 (part_length rows n part)) [
+      | inl some ↦ (let known = part_known rows n part some in (known.0, known.2))
+      | inr none ↦
+          let empty : length (part_string rows n part) ≡ 0 = let p = part_kept rows kept n part in omega arith in
+          let zeros : m * length (part_string rows n part) ≡ m * 0 = ap (λ l. m * l) empty in
+          absurd (omega (arith, repeat_long, asked.within))
+    ]
 
-    -- one more copy, or what is asked for of it
-    copy_out : (out ys : List ℕ) (filled end inside : ℕ) → inside ≡ (start + filled) % limit → length out ≡ count → filled < count
-        → end ≡ min count (filled + (limit - inside)) → take filled out ≡ written_out rows n start filled
-        → ys ≡ written_out rows part inside (end - filled) → length ys ≡ end - filled → take end (put_mid filled (end - filled) out ys) ≡ written_out rows n start end
-    copy_out out ys filled end inside there long less at done written whole =
-        let place = start + filled in
-        let some : 0 < limit = repeat_part.0 in
-        let low : place % limit < limit = mod-lt place some in
-        let known = part_known rows n part (omega arith) in
-        let copy = copy_part_within m (part_string rows n part) place (end - filled) limit (is ∙ part_kept rows kept n part) (omega (arith, repeat_long, asked.within)) (omega arith) in
-        take-put_mid filled (end - filled) out ys end (omega arith) (omega arith)
-        ∙ ap (λ xs. xs ++ ys) done
-        ∙ ap (λ xs. written_out rows n start filled ++ xs)
-        (written ∙ ap (λ i. written_out rows part i (end - filled)) there ∙ ap (λ xs. take (end - filled) (drop (place % limit) xs)) (sym known.2) ∙ sym copy
-        ∙ ap (λ xs. take (end - filled) (drop place xs)) (sym (string_is asked))
-        ∙ ap (take (end - filled)) (sym (drop-drop filled start (leaf_string rows n))))
-        ∙ sym (take_in_two (drop start (leaf_string rows n)) filled end (omega arith))
+    pub repeat_asked : count ≤ shape_length rows (Repeat part m) - start
+    repeat_asked =
+        let same = ap (λ xs. min 65535 (m * length xs)) repeat_part.1 in
+        omega (arith, repeat_long, same, copies_long rows kept part m, asked.within)
 
-    -- the rest of the first copy
-    pub copied_first : (out ys : List ℕ) (place first : ℕ) → length out ≡ count → place ≡ start % limit → first ≡ min count (limit - place)
-        → ys ≡ written_out rows part place (length (take first out)) → length ys ≡ length (take first out) → Copied rows n start limit count first (ys ++ drop first out)
-    copied_first out ys place first long there at written whole =
-        let some : 0 < limit = repeat_part.0 in
-        let all : first - 0 ≡ first = omega arith in
-        let size : length (take first out) ≡ first - 0 = length-take-le first out (omega arith) ∙ sym all in
-        let from : place ≡ (start + 0) % limit = there ∙ (let e : start ≡ start + 0 = omega arith in ap (λ a. a % limit) e) in
-        let one = copy_out out ys 0 first place from long more (omega arith) refl (written ∙ ap (written_out rows part place) size) (whole ∙ size) in
-        let end : first ≡ min first count = omega arith in
+    pub repeat_falls : calls_left count part < 2 * n
+    repeat_falls = let below = calls_left_le count part in omega (arith, repeat_part.0)
+
+    pub repeat_out : copies_out rows part m start count ≡ written_out rows n start count
+    repeat_out = ap (λ xs. take count (drop start xs)) (sym (string_is asked ∙ ap (times m) repeat_part.1))
+
+  -- of copies, what is asked for in the one that is next
+  module _ {row : Row} (found : row_at rows n ≡ Some row) {m count limit : ℕ} (fits : count ≤ shape_length rows (Repeat n m) - start) (long : limit ≡ row.length) {filled : ℕ} (out : List ℕ)
+      (g : Copied rows n m start count filled out) (less : filled < length out) {place end : ℕ} (there : place ≡ (start + filled) % limit) (at : end ≡ min (length out) (filled + (limit - place))) where
+    known : (0 < n) × (n ≤ length rows) × (row_of rows n ≡ row)
+    known = row_of_some rows n row found
+
+    is : limit ≡ (row_of rows n).length
+    is = long ∙ sym (ap (λ r. r.length) known.2)
+
+    low : place < limit
+    low = let l = mod-lt (start + filled) (subst (λ l. 0 < l) (sym is) (copies_some rows n m start count fits (omega (arith, g.long)))) in omega arith
+
+    size : length (take (end - filled) (drop filled out)) ≡ end - filled
+    size = length_part out filled end (omega (arith, g.long))
+
+    pub copy_asked : {shape : Shape} → row.shape ≡ shape → Asked rows n shape place (length (take (end - filled) (drop filled out)))
+    copy_asked same = record { is = ap (λ r. r.shape) known.2 ∙ same; some = known.0; known = known.1; within = omega (arith, low, size, is) }
+
+    pub copy_some : 0 < length (take (end - filled) (drop filled out))
+    copy_some = omega (arith, low, size)
+
+    pub copied_more : (ys : List ℕ) → ys ≡ written_out rows n place (length (take (end - filled) (drop filled out))) → length ys ≡ length (take (end - filled) (drop filled out))
+        → Copied rows n m start count end (put_mid filled (end - filled) out ys)
+    copied_more ys written whole =
+        let l = low in
+        let i = is in
+        let long = g.long in
+        let from : place ≡ (start + filled) % (row_of rows n).length = there ∙ ap (λ l. (start + filled) % l) is in
+        let copy = copy_part_within m (leaf_string rows n) (start + filled) (end - filled) (row_of rows n).length (leaves_kept rows kept n) (omega (arith, copies_long rows kept n m)) (omega arith) in
+        let string = times m (leaf_string rows n) in
         record {
-          long = simp (length-append, length-drop) (omega arith);
-          done = ap (λ i. take first (ys ++ drop i out)) (sym all) ∙ one ∙ ap (written_out rows n start) end;
-          whole = λ less. let e : first ≡ limit - start % limit = omega arith in ap (λ i. (start + i) % limit) e ∙ up_to_copy start limit some;
+          long = length_put out ys filled (end - filled) (omega (arith, g.long)) (whole ∙ size) ∙ g.long;
+          within = omega arith;
+          done =
+              take-put_mid filled (end - filled) out ys end (omega (arith, whole, size)) (omega (arith, g.long))
+              ∙ ap (λ xs. xs ++ ys) g.done
+              ∙ ap (λ xs. copies_out rows n m start filled ++ xs)
+              (written ∙ ap (written_out rows n place) size ∙ ap (λ i. written_out rows n i (end - filled)) from ∙ sym copy ∙ ap (take (end - filled)) (sym (drop-drop filled start string)))
+              ∙ sym (take_in_two (drop start string) filled end (omega arith));
         }
-
-    -- and the next
-    pub copied_more : (out ys : List ℕ) (copy end : ℕ) → Copied rows n start limit count copy out → copy < count → end ≡ min count (copy + limit)
-        → ys ≡ written_out rows part 0 (length (take (end - copy) (drop copy out))) → length ys ≡ length (take (end - copy) (drop copy out))
-        → Copied rows n start limit count (copy + limit) (put_mid copy (end - copy) out ys)
-    copied_more out ys copy end g less at written whole =
-        let some : 0 < limit = repeat_part.0 in
-        let size : length (take (end - copy) (drop copy out)) ≡ end - copy = length_part out copy end (omega (arith, g.long)) in
-        let here : copy ≡ min copy count = omega arith in
-        let one = copy_out out ys copy end 0 (sym (g.whole less)) g.long less (omega arith) (g.done ∙ ap (written_out rows n start) (sym here)) (written ∙ ap (written_out rows part 0) size) (whole ∙ size) in
-        let put = put_mid copy (end - copy) out ys in
-        let long : length put ≡ count = length_put out ys copy (end - copy) (omega (arith, g.long)) (whole ∙ size) ∙ g.long in
-        let last : end ≡ min (copy + limit) count = omega arith in
-        record {
-          long = long;
-          done = elim (cases_lt count (copy + limit)) [
-            | inr fits ↦ (let e : copy + limit ≡ end = omega arith in ap (λ i. take i put) e) ∙ one ∙ ap (written_out rows n start) last
-            | inl over ↦ take_all (copy + limit) put (omega arith) ∙ sym (take_all end put (omega arith)) ∙ one ∙ ap (written_out rows n start) last
-          ];
-          whole = λ further. (let e : start + (copy + limit) ≡ start + copy + limit = omega arith in ap (λ i. i % limit) e) ∙ add-mod_right (start + copy) limit ∙ g.whole less;
-        }
-
-    pub copied_all : (out : List ℕ) (copy : ℕ) → Copied rows n start limit count copy out → count ≤ copy → out ≡ written_out rows n start count
-    copied_all out copy g past =
-        let all : min copy count ≡ count = omega arith in
-        sym (take_all copy out (omega (arith, g.long))) ∙ g.done ∙ ap (λ i. written_out rows n start i) all

@@ -27,7 +27,7 @@ length_times zero xs = omega arith
 length_times (suc n) xs = length-append xs (times n xs) ∙ (let rest = length_times n xs in omega arith)
 
 -- a product of a number that was cut at 65,535
-capped_product : (a m : ℕ) → min 65535 (min 65535 a * m) ≡ min 65535 (m * a)
+pub capped_product : (a m : ℕ) → min 65535 (min 65535 a * m) ≡ min 65535 (m * a)
 capped_product a zero = omega arith
 capped_product a (suc m) =
     elim (cases_lt 65535 a) [

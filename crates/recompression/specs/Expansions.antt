@@ -3,12 +3,16 @@ use Rattle.std.specs.Prelude.{◌≡◌, ℕ, ◌+◌, ◌<◌, ◌≤◌, cond,
 use Rattle.rows.specs.declared.Shape.{Shape}
 use Rattle.rows.specs.declared.Row.{Row}
 use Rattle.rows.specs.Filing.{row_of}
-use Rattle.rows.specs.Strips.{leaf_string}
+use Rattle.rows.specs.Strips.{times, leaf_string}
 use Rattle.recompression.specs.declared.table.expansion.OutOfStrip.{OutOfStrip}
 
 -- so many leaf numbers of a number's strip, from a place on
 abbrev pub written_out : List Row → ℕ → ℕ → ℕ → List ℕ
 written_out rows n start count = take count (drop start (leaf_string rows n))
+
+-- and of copies of it, one after the other
+abbrev pub copies_out : List Row → ℕ → ℕ → ℕ → ℕ → List ℕ
+copies_out rows n copies start count = take count (drop start (times copies (leaf_string rows n)))
 
 -- they are written where the number's row keeps a length that has them all; otherwise nothing is changed
 abbrev pub ExpandsTo : List Row → ℕ → ℕ → List ℕ → Result (Unit {0}) OutOfStrip → List ℕ → Type 0

@@ -1,9 +1,9 @@
 //! A part of a number's strip, written out as the numbers of its leaves.
-ghost use Rattle.std.specs.Prelude.{◌≡◌, ◌+◌, ◌%◌, ◌<◌, ◌≤◌, length};
+ghost use Rattle.std.specs.Prelude.{◌≡◌, ◌-◌, ◌%◌, ◌<◌, ◌≤◌, length};
 ghost use Rattle.recompression.specs.Contents.{rows_in};
-ghost use Rattle.recompression.specs.Expansions.{Asked, ExpandsTo, part_length, written_out};
+ghost use Rattle.recompression.specs.Expansions.{Asked, ExpandsTo, copies_out, part_length, written_out};
 ghost use Rattle.rows.specs.declared.Shape.TheVariants.{Pair, Repeat};
-ghost use Rattle.rows.specs.Filing.{row_of};
+ghost use Rattle.rows.specs.Filing.{row_of, shape_length};
 
 use crate::table::Table;
 use rows::Shape;
@@ -31,7 +31,8 @@ impl Table {
         if start > kept || out.len() > kept - start {
             return Err(OutOfStrip);
         }
-        self.expand_row(number, start, out);
+        // A number is its own one copy, and so is each part of a pair.
+        self.expand_repeat(number, 1, start, out);
         Ok(())
     }
 
@@ -46,30 +47,8 @@ impl Table {
         }
     }
 
-    // Fills `out` as `expand` does, where the row is known to keep a length that has all the places. Only parts
-    // below the row are visited, so that the calls come to leaves. Three functions call each other, and each says
-    // the same of `out`: a struct of number, start and `out` would be taken apart at each call.
-    #[cycle(expand_pair_expand_repeat_expand_row)]
-    fn expand_row(&self, number: u16, start: usize, out: &mut [u16])
-        requires { start + length out.old ≤ (row_of (rows_in self.now) number).length }
-        ensures { out.new ≡ written_out (rows_in self.now) number start (length out.old) }
-    {
-        if out.is_empty() {
-            return;
-        }
-        let Some(row) = self.row(number) else {
-            return;
-        };
-        match row.shape {
-            Shape::Leaf { .. } => out[0] = number,
-            Shape::Pair { left, right } => self.expand_pair(number, left, right, start, out),
-            Shape::Repeat { part, times } => self.expand_repeat(number, part, times, start, out),
-        }
-    }
-
-    // Places before the end of the left part come from it, and the others from the right part. A part that
-    // no place is asked of is not visited.
-    #[cycle(expand_pair_expand_repeat_expand_row)]
+    // Places before the end of the left part come from it, and the others from the right part.
+    #[cycle(expand_pair_expand_repeat)]
     fn expand_pair(&self, number: u16, left: u16, right: u16, start: usize, out: &mut [u16])
         requires { Asked (rows_in self.now) number (Pair left right) start (length out.old) }
         ensures { out.new ≡ written_out (rows_in self.now) number start (length out.old) }
@@ -77,29 +56,32 @@ impl Table {
         let left_length = self.part_length(number, left);
         let split = left_length.saturating_sub(start).min(out.len());
         let (front, back) = out.split_at_mut(split);
-        if !front.is_empty() {
-            self.expand_row(left, start, front);
-        }
-        if !back.is_empty() {
-            self.expand_row(right, start.saturating_sub(left_length), back);
-        }
+        self.expand_repeat(left, 1, start, front);
+        self.expand_repeat(right, 1, start.saturating_sub(left_length), back);
     }
 
-    // The copies are written out one after the other, the first of them from where the start lies in it.
-    #[cycle(expand_pair_expand_repeat_expand_row)]
-    fn expand_repeat(&self, number: u16, part: u16, times: u16, start: usize, out: &mut [u16])
-        requires asked { Asked (rows_in self.now) number (Repeat part times) start (length out.old) }
-        requires some { 0 < length out.old }
-        ensures { out.new ≡ written_out (rows_in self.now) number start (length out.old) }
+    // The copies of a number's strip, one after the other, the first of them from where the start lies in it. A part
+    // that any place is asked of lies below its row, so that the calls come to leaves.
+    #[cycle(expand_pair_expand_repeat)]
+    fn expand_repeat(&self, number: u16, times: u16, start: usize, out: &mut [u16])
+        requires { length out.old ≤ shape_length (rows_in self.now) (Repeat number times) - start }
+        ensures { out.new ≡ copies_out (rows_in self.now) number times start (length out.old) }
     {
-        let part_length = self.part_length(number, part);
-        let place = place_in_copy(start, part_length);
-        let first = out.len().min(part_length - place);
-        self.expand_row(part, place, &mut out[..first]);
-        // By index, since a proof knows nothing of what is written into `chunks_mut`.
-        for copy in (first..out.len()).step_by(part_length) {
-            let end = out.len().min(copy + part_length);
-            self.expand_row(part, 0, &mut out[copy..end]);
+        let Some(row) = self.row(number) else {
+            return;
+        };
+        let copy_length = usize::from(row.length);
+        let mut filled = 0;
+        while filled < out.len() {
+            let place = place_in_copy(start + filled, copy_length);
+            let end = out.len().min(filled + (copy_length - place));
+            let copy = &mut out[filled..end];
+            match row.shape {
+                Shape::Leaf { .. } => copy[0] = number,
+                Shape::Pair { left, right } => self.expand_pair(number, left, right, place, copy),
+                Shape::Repeat { part, times } => self.expand_repeat(part, times, place, copy),
+            }
+            filled = end;
         }
     }
 }
