@@ -10,8 +10,8 @@ abbrev pub none_yet : Tally
 none_yet = record { run = 0; agree = 0 }
 
 -- a tally after one case more
-abbrev pub counted : Tally → Bool → Tally
-counted tally agrees = record { run = sum tally.run 1; agree = cond agrees (sum tally.agree 1) tally.agree }
+abbrev pub with_case : Tally → Bool → Tally
+with_case tally agrees = record { run = sum tally.run 1; agree = cond agrees (sum tally.agree 1) tally.agree }
 
 -- the cases of two tallies
 abbrev pub together : Tally → Tally → Tally

@@ -2,7 +2,7 @@
 #![tactic(auto)]
 
 ghost use Rattle.std.specs.Prelude.{◌≡◌, Some, ◌==◌};
-ghost use Rattle.tally.specs.Tallies.{none_yet, counted, together, tally_text};
+ghost use Rattle.tally.specs.Tallies.{none_yet, with_case, together, tally_text};
 
 use std::fmt;
 
@@ -25,7 +25,7 @@ impl Tally {
 
     /// One case more.
     pub fn count(&mut self, agrees: bool)
-        ensures { self.new ≡ counted self.old agrees }
+        ensures { self.new ≡ with_case self.old agrees }
     {
         self.run = self.run.saturating_add(1);
         if agrees {
