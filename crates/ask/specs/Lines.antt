@@ -2,8 +2,8 @@
 use Rattle.std.specs.Prelude.{ℕ, ◌^◌, Bool, true, false, cond, List, [], ◌∷◌, Some, None, vec_items, codes as ascii, Option}
 use Rattle.std.specs.Option.{option_map}
 use Rattle.periodicity.specs.declared.Fragment.{Fragment}
-use Rattle.ask.specs.declared.line.Line.{Line}
-use Rattle.ask.specs.declared.line.Line.TheVariants as line
+use Rattle.ask.specs.declared.statement.Statement.{Statement}
+use Rattle.ask.specs.declared.statement.Statement.TheVariants as statement
 use Rattle.ask.specs.declared.words.Words.{Words}
 use Rattle.ask.specs.declared.question.Layers.{Layers}
 use Rattle.ask.specs.declared.question.Question.{Question}
@@ -110,9 +110,9 @@ words_say (w ∷ ws) = cond (is_named w (ascii "strip")) (strip_saying (codes_wo
 abbrev pub saying_of : List ℕ → Saying
 saying_of bs = words_say (words_of bs)
 
--- what a parsed line says
-abbrev pub said_by : Line → Saying
-said_by line.Nothing = says_nothing
-said_by (line.Strip codes) = says_strip (vec_items codes)
-said_by (line.Question layers question) = asks layers question
-said_by line.NotUnderstood = not_understood
+-- the saying that a statement stands for
+abbrev pub said_by : Statement → Saying
+said_by statement.Nothing = says_nothing
+said_by (statement.Strip codes) = says_strip (vec_items codes)
+said_by (statement.Question layers question) = asks layers question
+said_by statement.NotUnderstood = not_understood

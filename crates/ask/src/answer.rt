@@ -1,6 +1,6 @@
 //! Questions asked of a keeper, and their answers as text.
 
-ghost use Rattle.std.specs.Prelude.{◌≡◌, ℕ, List, ◌++◌, Some, codes as ascii};
+ghost use Rattle.std.specs.Prelude.{◌≡◌, ℕ, List, Some, codes as ascii};
 ghost use Rattle.std.specs.Fmt.{WritesOnOk};
 ghost use Rattle.questions.specs.Outcomes.{outcome};
 ghost use Rattle.ask.specs.Answers.{Reply, records_outcome, reply_to, reply_of, seen_through, reversed_if};
@@ -17,8 +17,11 @@ use std::fmt;
 /// `places 0 2 3`, `overlaps none`, `periods 2 0 1 / 4 0 1` or `periods refused 10`.
 #[derive(Clone, Copy)]
 pub enum Answer {
+    /// The places, counted in the strip as the question sees it, or none.
     Places(Result<Option<Progression>, Refusal>),
+    /// The lengths of the overlaps in codes, or none.
     Overlaps(Result<Option<Progression>, Refusal>),
+    /// The records of the periods, which are numbers of codes; those that are not in use are three zeros.
     Periods(Result<[Progression; RECORDS], Refusal>),
 }
 
@@ -72,7 +75,9 @@ impl Asking for Question {
 /// them, read backwards.
 #[derive(Clone, Copy)]
 pub struct Through<A> {
+    /// The layers, which stand on the codes that it is asked of.
     pub layers: Layers,
+    /// What is asked of the codes seen through them.
     pub asking: A,
 }
 

@@ -3,13 +3,13 @@
 #![tactic(auto)]
 
 mod answer;
-mod line;
 mod number;
 mod question;
 mod session;
+mod statement;
 mod words;
 
 pub use answer::{Answer, Asking, Through, ask_through};
-pub use line::{Line, parse};
 pub use question::{Layers, Question};
 pub use session::transcript;
+pub use statement::{Statement, parse};

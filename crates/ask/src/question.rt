@@ -25,6 +25,8 @@ pub enum Question {
 /// How a question sees the strip: through a window, if there is one, and then reversed, if so.
 #[derive(Clone, Copy)]
 pub struct Layers {
+    /// The part that is seen, in places and codes of what the layers stand on; without a window all of it is.
     pub window: Option<Fragment>,
+    /// Whether that part is seen from its last code to its first.
     pub reversed: bool,
 }

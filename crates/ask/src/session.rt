@@ -6,22 +6,27 @@ ghost use Rattle.ask.specs.Lines.{said_by};
 ghost use Rattle.ask.specs.Transcript.{printed_for, transcript_of};
 
 use crate::answer::ask_through;
-use crate::line::{Line, parse};
+use crate::statement::{Statement, parse};
 use crate::words::Lines;
 use keepers::LooseStrip;
 use std::alloc::{AllocError, Global};
 
 // What is printed for the line with this number.
-fn printed(heap: Global, number: usize, strip: &[u32], line: &Line) -> Result<String, AllocError>
-    ensures { IfOk result (λ text. string_bytes text ≡ printed_for number strip.now (said_by line.now)) }
+fn printed(
+    heap: Global,
+    number: usize,
+    strip: &[u32],
+    statement: &Statement,
+) -> Result<String, AllocError>
+    ensures { IfOk result (λ text. string_bytes text ≡ printed_for number strip.now (said_by statement.now)) }
 {
-    match line {
-        Line::Nothing | Line::Strip { .. } => Ok(String::new(heap)),
-        Line::Question { layers, question } => {
+    match statement {
+        Statement::Nothing | Statement::Strip { .. } => Ok(String::new(heap)),
+        Statement::Question { layers, question } => {
             let answer = ask_through(&LooseStrip::new(strip), *layers, *question);
             format!(in heap; "{answer}\n")
         }
-        Line::NotUnderstood => format!(in heap; "line {number} not understood\n"),
+        Statement::NotUnderstood => format!(in heap; "line {number} not understood\n"),
     }
 }
 
@@ -35,10 +40,10 @@ pub fn transcript(heap: Global, text: &[u8]) -> Result<String, AllocError>
     let mut all = String::new(heap);
     let mut strip = Vec::new(heap);
     for (i, bytes) in Lines::of(text).enumerate() {
-        let line = parse(heap, bytes)?;
-        let text = printed(heap, i + 1, strip.as_slice(), &line)?;
+        let statement = parse(heap, bytes)?;
+        let text = printed(heap, i + 1, strip.as_slice(), &statement)?;
         all.push_str(text.as_str())?;
-        if let Line::Strip { codes } = line {
+        if let Statement::Strip { codes } = statement {
             strip = codes;
         }
     }

@@ -1,6 +1,6 @@
 //! What a line of text says.
 
-ghost use Rattle.std.specs.Prelude.{◌≡◌, IfOk, Some, vec_items};
+ghost use Rattle.std.specs.Prelude.{◌≡◌, IfOk, vec_items};
 ghost use Rattle.std.specs.Option.{option_map};
 ghost use Rattle.ask.specs.Words.{words_left, named_front};
 ghost use Rattle.ask.specs.Lines.{front_of, at_end, number_front, fragment_front, layers_front, places_words};
@@ -12,15 +12,17 @@ use crate::words::{Words, spells};
 use periodicity::Fragment;
 use std::alloc::{AllocError, Global};
 
-/// What a line says.
+/// What a line of text that was read says.
 #[derive(Drop)]
-pub enum Line {
+pub enum Statement {
     /// It has no words.
     Nothing,
     /// The strip is now this one.
     Strip { codes: Vec<u32> },
     /// A question, and the layers through which it sees the strip.
     Question { layers: Layers, question: Question },
+    /// It names no question; or it has a number too few or too many, a word that is no number where one is due, or a
+    /// number that does not fit.
     NotUnderstood,
 }
 
@@ -147,18 +149,19 @@ impl Words<'_> {
 /// What a line says, without its newline. `strip 7 8 7` sets the strip; `window 1 2 reversed periods 0 2` asks about
 /// what is seen of it through a window and then backwards. What names no question, or has a number too few or too
 /// many, is `NotUnderstood`; the only error is that memory runs out.
-pub fn parse(heap: Global, line: &[u8]) -> Result<Line, AllocError>
+pub fn parse(heap: Global, line: &[u8]) -> Result<Statement, AllocError>
     ensures { IfOk result (λ parsed. said_by parsed ≡ saying_of line.now) }
 {
     let mut words = Words::of(line);
     let parsed = match words.next() {
-        None => Some(Line::Nothing),
+        None => Some(Statement::Nothing),
         Some(name) if spells(name, "strip") => words
             .codes(heap)?
-            .map(|codes| Line::Strip { codes }),
-        Some(_) => Words::of(line)
-            .asked()
-            .map(|(layers, question)| Line::Question { layers, question }),
+            .map(|codes| Statement::Strip { codes }),
+        Some(_) => Words::of(line).asked().map(|(layers, question)| Statement::Question {
+            layers,
+            question,
+        }),
     };
-    Ok(parsed.unwrap_or(Line::NotUnderstood))
+    Ok(parsed.unwrap_or(Statement::NotUnderstood))
 }

@@ -5,17 +5,22 @@ ghost use Rattle.ask.specs.Transcript.{transcript_of};
 ghost use Rattle.question_cases.specs.Cases.{asking_lines, expected_line};
 
 use crate::asked::Asked;
-use ask::{Line, parse, transcript};
+use ask::{Statement, parse, transcript};
 use std::alloc::{AllocError, Global};
 
 /// The columns of a line `question | codes | layers | arguments | answer`, where the layers with their bar may
 /// be left out. Layers stand from the strip outwards, with a comma between two piles of them.
 #[derive(Clone, Copy)]
 pub struct Case<'a> {
+    /// The name of the question.
     pub question: &'a str,
+    /// The codes of the strip, with spaces between.
     pub codes: &'a str,
+    /// The layers as lines spell them: one pile of them, or two with a comma between; empty where there are none.
     pub layers: &'a str,
+    /// The numbers that the question has.
     pub arguments: &'a str,
+    /// What is printed after the question's name, as it is expected.
     pub answer: &'a str,
 }
 
@@ -51,7 +56,7 @@ impl<'a> Case<'a> {
     }
 
     // A line of the language of lines, as it is read: layers, and the question with its numbers.
-    fn question_line(self, heap: Global, layers: &str) -> Result<Line, AllocError> {
+    fn question_line(self, heap: Global, layers: &str) -> Result<Statement, AllocError> {
         let line = format!(in heap; "{layers} {} {}", self.question, self.arguments)?;
         parse(heap, line.as_bytes())
     }
@@ -65,9 +70,9 @@ impl<'a> Case<'a> {
         let above = self.question_line(heap, above)?;
         Ok(match (strip, below, above) {
             (
-                Line::Strip { codes },
-                Line::Question { layers: below, .. },
-                Line::Question {
+                Statement::Strip { codes },
+                Statement::Question { layers: below, .. },
+                Statement::Question {
                     layers: above,
                     question,
                 },
