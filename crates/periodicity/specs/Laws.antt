@@ -30,7 +30,8 @@ LeastDivides = (xs : List ℕ) (p q : ℕ) → 0 < p → Period xs p → ((r : �
 abbrev pub OverlapsProgress : Type 0
 OverlapsProgress = (first second : List ℕ) (d : ℕ) → Names (progression_of (overlaps_of first second d)) (overlaps_of first second d)
 
--- places in a field shorter than twice the pattern are a progression
+-- of a pattern and a field that lie in the list, with the field shorter than twice the pattern, the places are a
+-- progression
 abbrev pub PlacesProgress : Type 0
 PlacesProgress = (xs : List ℕ) (pattern field : Fragment) → inside xs pattern ≡ true → inside xs field ≡ true → field.length < 2 * pattern.length
     → Names (progression_of (places_of xs pattern field)) (places_of xs pattern field)
@@ -39,11 +40,13 @@ PlacesProgress = (xs : List ℕ) (pattern field : Fragment) → inside xs patter
 abbrev pub OverlapsExact : Type 0
 OverlapsExact = (first second : List ℕ) (d n : ℕ) → ContainsAt (overlaps_of first second d) n ↔ ((d ≤ n) × (n < 2 * d) × Overlap first second n)
 
--- the places listed are exactly those where the pattern stands in the field
+-- of a pattern and a field that lie in the list, the places listed are exactly those where the pattern stands in the
+-- field
 abbrev pub PlacesExact : Type 0
 PlacesExact = (xs : List ℕ) (pattern field : Fragment) → inside xs pattern ≡ true → inside xs field ≡ true
     → (i : ℕ) → ContainsAt (places_of xs pattern field) i ↔ PlaceIn xs pattern field i
 
--- the records of a list name its periods, range of borders by range, and joined all of them, each once
+-- of a list of 1 to 65,535 codes, the records name its periods, range of borders by range, and joined all of them,
+-- each once
 abbrev pub RecordsName : Type 0
 RecordsName = (xs : List ℕ) → 1 ≤ length xs → length xs ≤ 65535 → PeriodsNamed xs (written_records xs)

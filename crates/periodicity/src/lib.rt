@@ -9,10 +9,12 @@ ghost use Rattle.periodicity.specs.Laws.{TestsHold, CommonGreatest, DifferenceRe
 
 use std::fmt;
 
-/// A part of a strip: where it starts, and how many codes it has.
+/// A part of a strip. Any numbers make one: whether it lies in a strip, `lies_within` tells.
 #[derive(Clone, Copy, PartialEq, Eq, Debug, Default)]
 pub struct Fragment {
+    /// The place of its first code, counted from 0.
     pub start: usize,
+    /// How many codes it has.
     pub length: usize,
 }
 
@@ -25,11 +27,15 @@ impl Fragment {
     }
 }
 
-/// An arithmetic progression of `count` numbers: first, first + step, and so on.
+/// An arithmetic progression of `count` numbers: first, first + step, and so on. It prints as first, step and
+/// count: `2 3 4` stands for 2, 5, 8 and 11.
 #[derive(Clone, Copy, PartialEq, Eq, Debug, Default)]
 pub struct Progression {
+    /// Its least number. What is counted, places or codes, depends on the question.
     pub first: usize,
+    /// How much each number is above the one before it; 0 where there is one number alone.
     pub step: usize,
+    /// How many numbers there are. A record that is not in use has none.
     pub count: usize,
 }
 
@@ -51,10 +57,13 @@ impl fmt::Display for Progression {
 /// - `difference`: the difference of two periods is a period, when their sum is at most the length.
 /// - `least`: the least period divides each other period, when their sum is at most the length.
 /// - `overlaps`: overlaps of lengths from d to 2d - 1 are a progression.
-/// - `places`: places in a field shorter than twice the pattern are a progression.
+/// - `places`: of a pattern and a field that lie in the list, with the field shorter than twice the pattern, the places
+///   are a progression.
 /// - `overlaps_exact`: the overlaps listed are exactly those lengths in which the lists overlap.
-/// - `places_exact`: the places listed are exactly those where the pattern stands in the field.
-/// - `records`: the records of a list name its periods, range of borders by range, and joined all of them, each once.
+/// - `places_exact`: of a pattern and a field that lie in the list, the places listed are exactly those where the
+///   pattern stands in the field.
+/// - `records`: of a list of 1 to 65,535 codes, the records name its periods, range of borders by range, and joined all
+///   of them, each once.
 pub fn laws_of_periodicity()
     ensures tests { TestsHold }
     ensures greatest { CommonGreatest }

@@ -10,7 +10,8 @@ use Rattle.periodicity.specs.Progressions.{progression_of}
 use Rattle.questions.specs.declared.refusal.Refusal.{Refusal}
 use Rattle.questions.specs.declared.refusal.Refusal.TheVariants.{FragmentLeavesStrip, FieldTooLong, ZeroOverlap, EmptyFragment, TooFewRecords}
 
--- the number of each refusal, which nothing else tells
+-- the number of each refusal; no other definition gives these refusals numbers. A shelf has refusals of its own, of
+-- which one, that a part leaves the strip, also has the number 7
 abbrev pub refusal_number : Refusal → ℕ
 refusal_number FragmentLeavesStrip = 7
 refusal_number FieldTooLong = 8
