@@ -1,6 +1,5 @@
 //! Glyphs: the kind of cell that is a number of 16 bits, and always printable.
-ghost use Rattle.std.specs.Prelude.{◌≡◌};
-ghost use Rattle.cells.specs.Glyphs.{blank_glyph, glyph_code, glyph_known, glyph_of, same_glyph, spelled_glyph};
+ghost use Rattle.cells.specs.Glyphs.{blank_glyph, glyph_code, glyph_known, same_glyph, spelled_glyph};
 ghost use Rattle.std.proofs.Common.{rules};
 
 use crate::CellKind;

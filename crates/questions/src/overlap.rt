@@ -1,6 +1,6 @@
 //! The overlaps of two fragments.
 
-ghost use Rattle.std.specs.Prelude.{◌≡◌, ◌+◌, ◌-◌, ◌*◌, ◌/◌, ◌<◌, ◌≤◌, min, true, length};
+ghost use Rattle.std.specs.Prelude.{◌≡◌, ◌+◌, ◌-◌, ◌*◌, ◌/◌, ◌<◌, ◌≤◌, min};
 ghost use Rattle.periodicity.specs.Progressions.{triple};
 ghost use Rattle.periodicity.specs.Ranges.{GreatestFrom, Tells};
 ghost use Rattle.questions.specs.Answers.{OverlapsLaw, overlap_in};

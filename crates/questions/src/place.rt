@@ -1,6 +1,6 @@
 //! The places of a pattern in a field.
 
-ghost use Rattle.std.specs.Prelude.{◌≡◌, ◌+◌, ◌-◌, ◌*◌, ◌/◌, ◌<◌, ◌≤◌, min, true, length, None};
+ghost use Rattle.std.specs.Prelude.{◌≡◌, ◌+◌, ◌-◌, ◌*◌, ◌/◌, ◌<◌, ◌≤◌, min, length, None};
 ghost use Rattle.periodicity.specs.Places.{is_place};
 ghost use Rattle.periodicity.specs.Progressions.{triple};
 ghost use Rattle.periodicity.specs.Ranges.{LeastFrom, Tells};
