@@ -28,6 +28,9 @@ pub use day::Day;
 pub use glyph::Glyph;
 pub use printing::first_unprintable;
 
+/// A kind of cell. A new kind gives its number, its blank, its rule of sameness and its codes, and shows that they keep
+/// the laws; `cell` is the same for all kinds. Of `Day`, the code of day 31, weekday 7 and mark 2 is
+/// (31 · 8 + 7) · 256 + 2 = 65,282, whatever the note; `cell(65_282)` is that day with note 0, and `cell(0)` the blank.
 pub trait CellKind: Sized + Drop {
     /// The number of the kind, by which a shelf knows it.
     const NUMBER: u8;

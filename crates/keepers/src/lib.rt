@@ -21,8 +21,8 @@ pub use reversed::Reversed;
 pub use side::Side;
 pub use window::Window;
 
-/// The most codes that a keeper stands for. A shelf has the same limit for cells (`rows`), of which nothing here
-/// knows.
+/// The most codes that a keeper stands for. It equals `rows::MAX_CELLS`, the most cells of a strip on a shelf, and stands
+/// here too, since keepers do not build on rows.
 pub const MAX_CODES: usize = 65_535;
 
 /// What stands for a list of codes and tells its longest common extensions.

@@ -1,6 +1,6 @@
 //! A loose strip: a keeper of the caller's own codes, compared code by code.
 
-ghost use Rattle.std.specs.Prelude.{◌≡◌, ◌≤◌, reverse, length, take, drop};
+ghost use Rattle.std.specs.Prelude.{◌≡◌, ◌≤◌, reverse, length, take};
 ghost use Rattle.periodicity.specs.Agreement.{common};
 ghost use Rattle.keepers.specs.Shortness.{most_codes, ShortList};
 
@@ -16,7 +16,8 @@ pub struct LooseStrip<'a> {
 impl<'a> LooseStrip<'a> {
     ghost use Rattle.keepers.specs.LooseStrip.{kept_codes};
 
-    /// Of more codes than `MAX_CODES` the first are kept, without a word.
+    /// Of more codes than `MAX_CODES` the first are kept. Nothing in the answer tells so: a caller who has to know compares
+    /// `codes.len()` with `MAX_CODES`.
     pub fn new(codes: &'a [u32]) -> Self
         ensures { kept_codes result ≡ take most_codes codes.now }
     {

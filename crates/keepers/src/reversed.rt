@@ -6,9 +6,10 @@ ghost use Rattle.keepers.specs.Layers.{ReversedAnswers};
 
 use crate::{Keeper, Side};
 
-/// The codes of the keeper below, the last one first.
+/// The codes of the keeper below, the last one first. A place counts from their end: 0 is the place of the last code.
 #[derive(Clone, Copy)]
 pub struct Reversed<K> {
+    /// The keeper whose codes are seen backwards.
     pub below: K,
 }
 

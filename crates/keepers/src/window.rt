@@ -9,11 +9,13 @@ ghost use Rattle.keepers.specs.Layers.{capped, WindowAnswers};
 use crate::{Keeper, Side};
 use periodicity::Fragment;
 
-/// Any part will do: the window starts at the smaller of the part's start and the length below, and has the
+/// A part of the codes of the keeper below. Any part will do: the window starts at the smaller of the part's start and the length below, and has the
 /// part's length or, where fewer codes remain, those.
 #[derive(Clone, Copy)]
 pub struct Window<K> {
+    /// The keeper of whose codes a part is seen.
     pub below: K,
+    /// The part, in places and codes of the keeper below.
     pub part: Fragment,
 }
 

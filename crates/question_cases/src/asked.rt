@@ -13,9 +13,13 @@ use std::alloc::{AllocError, Global};
 /// The codes, the layers from the strip outwards in two parts, and the question.
 #[derive(Drop)]
 pub struct Asked {
+    /// The codes of the strip.
     pub codes: Vec<u32>,
+    /// The layers that stand on the strip.
     pub below: Layers,
+    /// The layers that stand on those.
     pub above: Layers,
+    /// What is asked of what is seen through both.
     pub question: Question,
 }
 

@@ -2,12 +2,16 @@
 
 use tally::Tally;
 
-/// A tally for each question, and how many lines name none of them.
+/// A tally for each question. A line that names none of them agrees with nothing.
 #[derive(Clone, Copy, Default)]
 pub struct Tallies {
+    /// Of questions about places.
     pub places: Tally,
+    /// Of questions about overlaps.
     pub overlaps: Tally,
+    /// Of questions about periods.
     pub periods: Tally,
+    /// How many lines name none of them.
     pub others: usize,
 }
 
