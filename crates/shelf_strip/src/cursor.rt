@@ -1,4 +1,5 @@
-// Cursors: places in the strips of rows, which go down from a row to the part under them.
+//! Cursors: places in the strips of rows, which go down from a row to the part under them.
+
 ghost use Rattle.std.specs.Prelude.{◌≡◌, ◌+◌, ◌<◌, ◌≤◌};
 ghost use Rattle.shelf.specs.Contents.{rows_on};
 ghost use Rattle.shelf_strip.specs.Cursors.{Descends, Stands, Steps, at_place, in_copies, in_pair, same_stand};

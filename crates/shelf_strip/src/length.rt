@@ -1,4 +1,5 @@
-// The length of a number's strip.
+//! The length of a number's strip.
+
 ghost use Rattle.std.specs.Prelude.{◌≡◌, length};
 ghost use Rattle.rows.specs.Strips.{strip};
 ghost use Rattle.shelf.specs.Contents.{rows_on};

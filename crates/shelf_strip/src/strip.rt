@@ -1,4 +1,5 @@
-// A strip on a shelf.
+//! A strip on a shelf.
+
 ghost use Rattle.std.specs.Prelude.{◌≡◌, ◌≤◌, length, drop};
 ghost use Rattle.periodicity.specs.Agreement.{common};
 ghost use Rattle.keepers.specs.Shortness.{ShortList};
@@ -11,7 +12,8 @@ use crate::length::strip_length;
 use keepers::{Keeper, Side};
 use shelf::Shelf;
 
-// The shelf, shared, and a number. A number that is not known stands for the empty strip.
+/// A strip on a shelf, kept as the shelf, shared, and the strip's number. While it is held the shelf takes, joins and
+/// cuts nothing. Its codes are those of the cells of the strip: of days, those that differ only in their notes are equal.
 #[derive(Clone, Copy)]
 pub struct ShelfStrip<'a> {
     shelf: &'a Shelf,
@@ -22,6 +24,8 @@ pub struct ShelfStrip<'a> {
 impl<'a> ShelfStrip<'a> {
     ghost use Rattle.shelf_strip.specs.ShelfStrip.{number_of, shelf_of, strip_of};
 
+    /// The strip of a number. A number that the shelf does not know is not refused: it stands for the empty strip, as 0
+    /// does. Whether it is known, `Shelf::length_of` tells.
     #[tactic(auto, using(rows::proofs::LawfulFacts::strip_short))]
     pub fn new(shelf: &'a Shelf, number: u16) -> Self
         ensures shelf { shelf_of result ≡ shelf.now }
