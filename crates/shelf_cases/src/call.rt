@@ -1,4 +1,5 @@
-// Takes, joins and cuts as a line spells them: alone, or sent as a list.
+//! Takes, joins and cuts as a line spells them: alone, or sent as a list.
+
 use crate::case::Bench;
 use crate::spelling::{Spelled, Told, number, read_cells};
 use anyhow::anyhow;
@@ -136,9 +137,7 @@ impl Bench {
             .split('|')
             .skip(1)
             .map(str::trim)
-            .collect::<Vec<_>>(heap)
-            // The words that this want of memory has always had.
-            .map_err(|_| anyhow!("too little memory"))?;
+            .collect::<Vec<_>>(heap)?;
         // Cells in a list of their own, since requests borrow them.
         let cells = cells_sent::<K>(heap, calls.as_slice())?;
         let requests = calls

@@ -1,4 +1,5 @@
-// A case: what a line asks of a shelf, and the answer that comes.
+//! A case: what a line asks of a shelf, and the answer that comes.
+
 use crate::call::Receiver;
 use crate::spelling::{OrNone, Spelled, Told, Whole, number, spell_cells, word};
 use anyhow::anyhow;
@@ -77,8 +78,7 @@ impl Bench {
         Ok(format!(in self.heap; "{outcome}:{cells}")?)
     }
 
-    // What is read of a shelf. Any other word writes a part out, as `write` does, so that lines are read as they
-    // always were.
+    // What is read of a shelf. Any word that names nothing else is read as `write`.
     fn read<K: Spelled + Copy>(&self, name: &str, rest: &str) -> anyhow::Result<String> {
         match name {
             "row" => self.row(rest),

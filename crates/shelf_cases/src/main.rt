@@ -1,5 +1,5 @@
-// Runs cases on real shelves, and compares their answers with those that the rules ask for, which the data
-// files hold. The last line says how many agree; where one does not, the program fails too.
+//! Runs cases on real shelves, and compares their answers with those that the rules ask for, which the data
+//! files hold. The last line says how many agree; where one does not, the program fails too.
 #![tactic(auto)]
 
 mod call;

@@ -1,4 +1,5 @@
-// How cells, answers and the numbers of a case are spelled.
+//! How cells, answers and the numbers of a case are spelled.
+
 use cells::{CellKind, Day, Glyph};
 use rows::{Row, Shape};
 use shelf::Refusal;
@@ -8,14 +9,16 @@ use std::fmt;
 use std::fmt::Write;
 use std::str::FromStr;
 
-// A kind whose cells can be spelled with all their fields. A trait of our own, since the kinds and the library's
-// traits are other crates'.
+/// A kind whose cells can be spelled with all their fields: a glyph as its number, a day as `day.weekday.mark.note`. A
+/// trait of its own, since a crate gives no type of another crate a trait of a third, such as `FromStr`.
 pub trait Spelled: CellKind {
-    // What a list holds before it is written to.
+    /// What a list holds before it is written to, so that a place that nothing is written to shows.
     const FILLER: Self;
 
+    /// The cell that a word spells; an error where a field is missing, is no number or does not fit.
     fn read(word: &str) -> anyhow::Result<Self>;
 
+    /// The cell as `read` reads it, printable or not. The only error is that memory runs out.
     fn spell(&self, heap: Global) -> Result<String, AllocError>;
 }
 

@@ -1,5 +1,5 @@
-// Asks for 1.5 million extensions in strips of 65,535 cells, and prints what they come to. Code by code that
-// would be billions of comparisons, and the program would run for long; what is compared is its output.
+//! Asks for 1.5 million extensions in strips of 65,535 cells, and prints what they come to. Code by code that
+//! would be billions of comparisons, and the program would run for long; what is compared is its output.
 #![tactic(auto)]
 
 mod pattern;

@@ -1,8 +1,10 @@
-// Long strips with much that repeats.
+//! Long strips with much that repeats.
+
 use cells::Glyph;
 use std::alloc::{AllocError, Global};
 use std::fmt;
 
+// A pattern of glyphs, by which the strips of this program are made.
 #[derive(Clone, Copy)]
 pub(crate) enum Pattern {
     // One cell, over and over.
