@@ -1,10 +1,11 @@
 //! A job from an input to an output: its bytes are read, it is run, and what it prints is written.
 #![tactic(auto)]
 
-ghost use Rattle.std.specs.Prelude.{◌≡◌, ◌≤◌, length, take, IfSome, IfOk, IfErr, OnOk, OnErr};
+ghost use Rattle.std.specs.Prelude.{◌≡◌, ◌≢◌, ◌≤◌, length, take, IfSome, IfOk, IfErr, OnOk, OnErr};
 ghost use Rattle.std.specs.Io.KnownBytes.{Appends, WriteAppends};
+ghost use Rattle.std.specs.IoError.{error_kind};
 ghost use Rattle.job.specs.Lines.{printed_by};
-ghost use Rattle.job_stream.specs.Moments.{FailedBeforeWriting, AppendsBeginning};
+ghost use Rattle.job_stream.specs.Moments.{FailedBeforeWriting, TriedAgain, AppendsBeginning};
 
 use failures::Failure;
 use job::MOST_BYTES;
@@ -16,7 +17,8 @@ const MOST_READ: u64 = MOST_BYTES as u64 + 1;
 
 // The bytes of an input, up to a limit.
 fn read_at_most<R: Read + Drop>(heap: Global, input: R, limit: u64) -> io::Result<Vec<u8>>
-    ensures { IfOk result (λ read. IfSome (R.remaining input) (λ bytes. read.items ≡ take limit bytes)) }
+    ensures front { IfOk result (λ read. IfSome (R.remaining input) (λ bytes. read.items ≡ take limit bytes)) }
+    ensures retried { IfErr result (λ error. error_kind error ≢ ErrorKind.Interrupted) }
 {
     let mut bytes = Vec::new(heap);
     input.take(limit).read_to_end(&mut bytes)?;
@@ -26,7 +28,8 @@ fn read_at_most<R: Read + Drop>(heap: Global, input: R, limit: u64) -> io::Resul
 // As much of a job as tells what it prints.
 #[tactic(auto, using(crate::proofs::Beginnings::printed_beginning))]
 fn read_job<R: Read + Drop>(heap: Global, input: R) -> io::Result<Vec<u8>>
-    ensures { IfOk result (λ read. IfSome (R.remaining input) (λ bytes. printed_by read.items ≡ printed_by bytes)) }
+    ensures printed { IfOk result (λ read. IfSome (R.remaining input) (λ bytes. printed_by read.items ≡ printed_by bytes)) }
+    ensures retried { IfErr result (λ error. error_kind error ≢ ErrorKind.Interrupted) }
 {
     read_at_most(heap, input, MOST_READ)
 }
@@ -36,6 +39,7 @@ fn read_job<R: Read + Drop>(heap: Global, input: R) -> io::Result<Vec<u8>>
 fn write_some<W: Write>(output: &mut W, bytes: &[u8]) -> io::Result<usize>
     ensures bound { IfOk result (λ count. count ≤ length bytes.now) }
     ensures bytes { WriteAppends (W.contents output.old) (W.contents output.new) result bytes.now }
+    ensures retried { IfErr result (λ error. error_kind error ≢ ErrorKind.Interrupted) }
 {
     match output.write(bytes) {
         Ok(0) => Err(ErrorKind::WriteZero.into()),
@@ -50,6 +54,7 @@ fn write_some<W: Write>(output: &mut W, bytes: &[u8]) -> io::Result<usize>
 fn write_whole<W: Write>(output: &mut W, bytes: &[u8]) -> io::Result<()>
     ensures whole { OnOk result (Appends (W.contents output.old) (W.contents output.new) bytes.now) }
     ensures beginning { OnErr result (AppendsBeginning (W.contents output.old) (W.contents output.new) bytes.now) }
+    ensures retried { IfErr result (λ error. error_kind error ≢ ErrorKind.Interrupted) }
 {
     let mut rest = bytes;
     for _call in 0..u64::MAX {
@@ -78,6 +83,7 @@ pub fn run_through<R: Read + Drop, W: Write>(
     ensures written { OnOk result (IfSome (R.remaining input)
         (λ bytes. Appends (W.contents output.old) (W.contents output.new) (printed_by bytes))) }
     ensures untouched { IfErr result (λ failure. FailedBeforeWriting failure → output.new ≡ output.old) }
+    ensures retried { IfErr result TriedAgain }
     ensures begun { OnErr result (IfSome (R.remaining input)
         (λ bytes. AppendsBeginning (W.contents output.old) (W.contents output.new) (printed_by bytes))) }
 {
