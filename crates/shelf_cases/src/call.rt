@@ -8,7 +8,6 @@ use periodicity::Fragment;
 use shelf::{Answer, Request, Sent, Shelf};
 use std::alloc::{AllocError, Global};
 use std::fmt;
-use std::str::Split;
 
 // What a work area holds before a call.
 const LEFTOVER: u16 = 43_981;
@@ -16,25 +15,31 @@ const LEFTOVER: u16 = 43_981;
 // What a place for an answer holds before a list is sent.
 const UNTOUCHED: u16 = 60_000;
 
-// The cells that a line as `take 3 5 9 5` spells; none where it spells another call. They are read before the
-// call, since a request borrows its cells.
-fn cells_taken<K: Spelled + Copy>(heap: Global, text: &str) -> anyhow::Result<Vec<K>> {
-    let mut parts = text.splitn(3, ' ');
-    match parts.next() {
-        Some("take") => read_cells(heap, parts.nth(1).unwrap_or("")),
-        _ => Ok(Vec::new(heap)),
-    }
+// What a line asks for. Not a `Request`, which borrows its cells: here they are read with the rest of the line.
+#[derive(Drop)]
+enum Act<K: Drop> {
+    Take { cells: Vec<K> },
+    Join { left: u16, right: u16 },
+    Cut { number: u16, part: Fragment },
 }
 
-fn read_join<'a, K>(words: &mut Split<'_, char>) -> anyhow::Result<Request<'a, K>> {
-    Ok(Request::Join {
+#[derive(Drop)]
+struct Call<K: Drop> {
+    act: Act<K>,
+    places: usize,
+}
+
+fn read_join<K: Drop>(text: &str) -> anyhow::Result<Act<K>> {
+    let mut words = text.split(' ');
+    Ok(Act::Join {
         left: number(words.next())?,
         right: number(words.next())?,
     })
 }
 
-fn read_cut<'a, K>(words: &mut Split<'_, char>) -> anyhow::Result<Request<'a, K>> {
-    Ok(Request::Cut {
+fn read_cut<K: Drop>(text: &str) -> anyhow::Result<Act<K>> {
+    let mut words = text.split(' ');
+    Ok(Act::Cut {
         number: number(words.next())?,
         part: Fragment {
             start: number(words.next())?,
@@ -43,19 +48,47 @@ fn read_cut<'a, K>(words: &mut Split<'_, char>) -> anyhow::Result<Request<'a, K>
     })
 }
 
-// A line as `take 3 5 9 5`, `join 3 3 1` or `cut 3 7 1 3`, with the cells that it takes: the first number is
-// that of the work places.
-fn read_call<'a, K>(text: &str, cells: &'a [K]) -> anyhow::Result<Sent<'a, K>> {
-    let mut words = text.split(' ');
-    let name = words.next();
-    let places = number(words.next())?;
-    let request = match name {
-        Some("take") => Request::Take { cells },
-        Some("join") => read_join(&mut words)?,
-        Some("cut") => read_cut(&mut words)?,
-        _ => return Err(anyhow!("a line names no call")),
-    };
-    Ok(Sent { request, places })
+impl<K: Spelled + Copy> Call<K> {
+    // A line as `take 3 5 9 5`, `join 3 3 1` or `cut 3 7 1 3`: the first number is that of the work places. It is read
+    // before the cells, so that of two faults the first is told, also where there is no memory for the cells.
+    fn read(heap: Global, text: &str) -> anyhow::Result<Self> {
+        let mut parts = text.splitn(3, ' ');
+        let name = parts.next();
+        let places = number(parts.next())?;
+        let rest = parts.next().unwrap_or("");
+        let act = match name {
+            Some("take") => Act::Take {
+                cells: read_cells(heap, rest)?,
+            },
+            Some("join") => read_join(rest)?,
+            Some("cut") => read_cut(rest)?,
+            _ => return Err(anyhow!("a line names no call")),
+        };
+        Ok(Call { act, places })
+    }
+
+    fn request(&self) -> Request<'_, K> {
+        match &self.act {
+            Act::Take { cells } => Request::Take {
+                cells: cells.as_slice(),
+            },
+            Act::Join { left, right } => Request::Join {
+                left: *left,
+                right: *right,
+            },
+            Act::Cut { number, part } => Request::Cut {
+                number: *number,
+                part: *part,
+            },
+        }
+    }
+
+    fn sent(&self) -> Sent<'_, K> {
+        Sent {
+            request: self.request(),
+            places: self.places,
+        }
+    }
 }
 
 // Performs a request by a call of its own, and not as a list of one.
@@ -88,14 +121,6 @@ fn said_of_work(work: &[u16]) -> &'static str {
     }
 }
 
-// The cells that the calls of a list take, call by call.
-fn cells_sent<K: Spelled + Copy>(heap: Global, calls: &[&str]) -> anyhow::Result<Vec<Vec<K>>> {
-    calls
-        .iter()
-        .map(|call| -> anyhow::Result<Vec<K>> { cells_taken(heap, call) })
-        .try_collect(heap)
-}
-
 // The answers to a list, each with a mark before it.
 #[derive(Clone, Copy)]
 struct ToldAll<'a>(&'a [Answer]);
@@ -112,10 +137,9 @@ impl fmt::Display for ToldAll<'_> {
 impl Bench {
     // Performs a call that a line spells.
     pub(crate) fn perform_call<K: Spelled + Copy>(&mut self, text: &str) -> anyhow::Result<String> {
-        let cells = cells_taken::<K>(self.heap, text)?;
-        let call = read_call(text, cells.as_slice())?;
+        let call = Call::<K>::read(self.heap, text)?;
         let mut work = work_area(self.heap, call.places)?;
-        let answer = Told(perform(&mut self.shelf, call.request, work.as_mut_slice()));
+        let answer = Told(perform(&mut self.shelf, call.request(), work.as_mut_slice()));
         let count = self.shelf.count();
         let said = said_of_work(work.as_slice());
         Ok(format!(in self.heap; "{answer}, {count} rows{said}")?)
@@ -136,17 +160,9 @@ impl Bench {
             .unwrap_or("")
             .split('|')
             .skip(1)
-            .map(str::trim)
-            .collect::<Vec<_>>(heap)?;
-        // Cells in a list of their own, since requests borrow them.
-        let cells = cells_sent::<K>(heap, calls.as_slice())?;
-        let requests = calls
-            .iter()
-            .zip(cells.iter())
-            .map(|(call, cells)| -> anyhow::Result<Sent<'_, K>> {
-                read_call(call, cells.as_slice())
-            })
+            .map(|call| -> anyhow::Result<Call<K>> { Call::read(heap, call.trim()) })
             .try_collect::<Vec<_>>(heap)?;
+        let requests = calls.iter().map(Call::sent).collect::<Vec<_>>(heap)?;
         let mut answers = vec![in heap; Ok(UNTOUCHED); capacity]?;
         let mut work = work_area(heap, places)?;
         let sent = self.deliver(

@@ -76,8 +76,10 @@ pub(crate) fn read_cells<K: Spelled + Copy>(heap: Global, text: &str) -> anyhow:
     let mut cells = Vec::new(heap);
     for word in text.split_whitespace() {
         let (cell, times) = word.split_once('x').unwrap_or((word, "1"));
+        // Before the times, so that of two faults the first is told.
+        let cell = K::read(cell)?;
         let len = cells.len().saturating_add(times.parse::<usize>()?);
-        cells.resize(len, K::read(cell)?)?;
+        cells.resize(len, cell)?;
     }
     Ok(cells)
 }
