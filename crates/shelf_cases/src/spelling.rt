@@ -20,6 +20,9 @@ pub trait Spelled: CellKind {
 
     /// The cell as `read` reads it, printable or not. The only error is that memory runs out.
     fn spell(&self, heap: Global) -> Result<String, AllocError>;
+
+    /// Whether both cells are spelled the same. Not by `==` alone, which leaves the note of a day out.
+    fn spelled_alike(&self, other: &Self) -> bool;
 }
 
 impl Spelled for Glyph {
@@ -31,6 +34,10 @@ impl Spelled for Glyph {
 
     fn spell(&self, heap: Global) -> Result<String, AllocError> {
         format!(in heap; "{}", self.0)
+    }
+
+    fn spelled_alike(&self, other: &Glyph) -> bool {
+        self == other
     }
 }
 
@@ -54,6 +61,10 @@ impl Spelled for Day {
 
     fn spell(&self, heap: Global) -> Result<String, AllocError> {
         format!(in heap; "{}.{}.{}.{}", self.day, self.weekday, self.mark, self.note)
+    }
+
+    fn spelled_alike(&self, other: &Day) -> bool {
+        self == other && self.note == other.note
     }
 }
 
@@ -84,18 +95,15 @@ pub(crate) fn read_cells<K: Spelled + Copy>(heap: Global, text: &str) -> anyhow:
     Ok(cells)
 }
 
-// Cells as `read_cells` reads them, with a space before each cell or run of cells.
+// Cells as `read_cells` reads them, with a space before each cell or run of cells. Only the first cell of a run is
+// spelled, so that no list of texts is kept.
 pub(crate) fn spell_cells<K: Spelled>(heap: Global, cells: &[K]) -> Result<String, AllocError> {
-    let spelled = cells
-        .iter()
-        .map(|cell| cell.spell(heap))
-        .try_collect::<Vec<_>>(heap)?;
     let mut text = String::new(heap);
-    for run in spelled.chunk_by(|one, next| one == next) {
+    for run in cells.chunk_by(|one, next| one.spelled_alike(next)) {
         match run {
             [] => {}
-            [cell] => write!(text, " {cell}")?,
-            [cell, ..] => write!(text, " {cell}x{}", run.len())?,
+            [cell] => write!(text, " {}", cell.spell(heap)?)?,
+            [cell, ..] => write!(text, " {}x{}", cell.spell(heap)?, run.len())?,
         }
     }
     Ok(text)
