@@ -216,13 +216,16 @@ impl Bench {
         let places = number(words.next())?;
         let first = number::<u16>(words.next())?;
         let times = number(words.next())?;
-        let heap = self.heap;
-        let answers = (first..first.saturating_add(times))
-            .map(|code| self.take_one::<K>(code, places))
-            .try_collect::<Vec<_>>(heap)?;
-        let refused = answers.iter().filter(|answer| answer.is_err()).count();
-        let last = Told(answers.last().copied().unwrap_or(Ok(UNTOUCHED)));
+        let mut refused = 0usize;
+        let mut last = Ok(UNTOUCHED);
+        for code in first..first.saturating_add(times) {
+            last = self.take_one::<K>(code, places)?;
+            if last.is_err() {
+                refused = refused.saturating_add(1);
+            }
+        }
+        let last = Told(last);
         let count = self.shelf.count();
-        Ok(format!(in heap; "last {last}, {refused} refused, {count} rows")?)
+        Ok(format!(in self.heap; "last {last}, {refused} refused, {count} rows")?)
     }
 }
