@@ -1,52 +1,51 @@
--- A word of digits is read as a number. Assumes nothing.
-use Rattle.std.proofs.Common.{◌≡◌, ℕ, zero, suc, ◌^◌, ◌<◌, ◌≤◌, true, false, ◌&&◌, List, [], ◌∷◌, length, Some, None, sym, refl, ap, ◌∙◌, arith}
+-- A number is read digit by digit. Assumes nothing.
+use Rattle.std.proofs.Common.{◌≡◌, ℕ, ◌+◌, ◌-◌, ◌*◌, ◌<◌, ◌≤◌, true, false, cond, ◌&&◌, ltb, List, [], ◌∷◌, length, get_or, drop, Some, None, Option, sym, refl, ap, ◌∙◌, arith}
 use Rattle.std.specs.Char.{is_ascii_digit}
-use Rattle.std.specs.List.{list_all}
-use Rattle.std.specs.Str.{all_ascii_digits, IsAscii, IsUtf8}
-use Rattle.std.specs.Str.Parse.{ParsesUnsigned}
-use Rattle.std.proofs.lemmas.Str.{IsUtf8-from_ascii}
-use Rattle.std.proofs.lemmas.Str.Parse.{IsNumeralModel, numerals_by_fold, tells_all_ascii_digits, parse_digits}
+use Rattle.std.specs.Str.{all_ascii_digits}
+use Rattle.std.proofs.lemmas.List.{at_drop_more, at_drop_all}
+use Rattle.std.proofs.lemmas.Bool.{cond-true, cond-false, and_right, le-ltb, lt-ltb}
 use Rattle.std.proofs.lemmas.Bool.Decides.{nat_tests}
 use Rattle.std.specs.declared.result.Result.{Result}
 use Rattle.std.specs.declared.result.Result.TheVariants.{Ok, Err}
 use Rattle.std.specs.Result.{OkIff, result_ok}
 use Rattle.ask.specs.Numbers.{value_after, number_below}
 
--- the number that digits write is the library's
-digits : IsNumeralModel (λ bs. all_ascii_digits bs ≡ true) (value_after 0)
-digits = numerals_by_fold _ tells_all_ascii_digits value_after record { empty = λ n. refl; more = λ n c cs is. refl }
+-- what comes of a number that has been read and the digits that follow
+abbrev pub read_on : ℕ → ℕ → List ℕ → Option ℕ
+read_on limit n bs = cond (all_ascii_digits bs && ltb (value_after n bs) limit) (Some (value_after n bs)) None
 
--- a word of digits is a text
-pub all_digits : (bs : List ℕ) → list_all is_ascii_digit bs ≡ all_ascii_digits bs
-all_digits [] = refl
-all_digits (b ∷ bs) = ap (λ t. is_ascii_digit b && t) (all_digits bs)
-
-low : (bs : List ℕ) → all_ascii_digits bs ≡ true → IsAscii bs
-low [] is i = omega arith
-low (b ∷ bs) is zero = omega (arith, (tells_all_ascii_digits.parts b bs is).0)
-low (b ∷ bs) is (suc i) = low bs (tells_all_ascii_digits.parts b bs is).1 i
-
-pub digits_utf8 : (bs : List ℕ) → all_ascii_digits bs ≡ true → IsUtf8 bs
-digits_utf8 bs is = IsUtf8-from_ascii bs (low bs is)
-
--- a word with another byte writes no number
-pub other_byte : (limit : ℕ) (bs : List ℕ) → all_ascii_digits bs ≡ false → None ≡ number_below limit bs
+pub number_reads : (limit : ℕ) (bs : List ℕ) → (length bs ≡ 0 → ⊥) → number_below limit bs ≡ read_on limit 0 bs
 unfolding number_below
-other_byte limit [] not = refl
-other_byte limit (b ∷ bs) not = grind (arith, nat_tests)
+number_reads limit [] some = absurd (some refl)
+number_reads limit (b ∷ bs) some = refl
 
--- what is parsed of a word of digits is its number
-parsed_as : {E : Type 0} (limit : ℕ) (bs : List ℕ) (r : Result ℕ E) → all_ascii_digits bs ≡ true → OkIff r ((0 < length bs) × (value_after 0 bs < limit)) (value_after 0 bs) → result_ok r ≡ number_below limit bs
+pub no_number : (limit : ℕ) (bs : List ℕ) → length bs ≡ 0 → number_below limit bs ≡ None
 unfolding number_below
-parsed_as limit [] (Ok n) is fits = absurd (omega (arith, fits.0.0))
-parsed_as limit [] (Err e) is over = refl
-parsed_as limit (b ∷ bs) (Ok n) is fits = let same = fits.1 in let below = fits.0.1 in grind (arith, nat_tests)
-parsed_as limit (b ∷ bs) (Err e) is over = let past : value_after 0 (b ∷ bs) < limit → ⊥ = λ h. over (omega arith, h) in grind (arith, nat_tests)
+no_number limit [] none = refl
+no_number limit (b ∷ bs) none = absurd (omega arith)
 
-pub parsed : {E : Type 0} (bs : List ℕ) (r : Result ℕ E) → all_ascii_digits bs ≡ true → ParsesUnsigned 64 10 bs r → result_ok r ≡ number_below (2 ^ 64) bs
-parsed bs r is parses = parsed_as (2 ^ 64) bs r is (parse_digits digits 64 bs r parses is)
+-- digits only add to a number
+value_grows : (n : ℕ) (bs : List ℕ) → n ≤ value_after n bs
+value_grows n [] = omega arith
+value_grows n (b ∷ bs) = let more = value_grows (n * 10 + (b - 48)) bs in omega arith
 
-pub ruleset reading = (other_byte, digits_utf8, parsed)
+too_large : (limit n : ℕ) (bs : List ℕ) → limit ≤ n → read_on limit n bs ≡ None
+too_large limit n bs h =
+    let more = value_grows n bs in
+    cond-false _ _ _ (and_right (all_ascii_digits bs) _ (le-ltb (value_after n bs) limit (omega arith)))
+
+-- one digit more; none, when the byte is no digit or the number is too large
+pub read_digit : (limit n : ℕ) (bs : List ℕ) (i : ℕ) → i < length bs → is_ascii_digit (get_or bs i 0) ≡ true → read_on limit n (drop i bs) ≡ read_on limit (n * 10 + (get_or bs i 0 - 48)) (drop (i + 1) bs)
+read_digit limit n bs i h e = at_drop_more (read_on limit n) bs i 0 h ∙ ap (λ t. cond ((t && all_ascii_digits (drop (i + 1) bs)) && ltb (value_after n (get_or bs i 0 ∷ drop (i + 1) bs)) limit) (Some (value_after n (get_or bs i 0 ∷ drop (i + 1) bs))) None) e
+
+pub read_other : (limit n : ℕ) (bs : List ℕ) (i : ℕ) → i < length bs → is_ascii_digit (get_or bs i 0) ≡ false → read_on limit n (drop i bs) ≡ None
+read_other limit n bs i h e = at_drop_more (read_on limit n) bs i 0 h ∙ ap (λ t. cond ((t && all_ascii_digits (drop (i + 1) bs)) && ltb (value_after n (get_or bs i 0 ∷ drop (i + 1) bs)) limit) (Some (value_after n (get_or bs i 0 ∷ drop (i + 1) bs))) None) e
+
+pub read_past : (limit n : ℕ) (bs : List ℕ) (i : ℕ) → i < length bs → is_ascii_digit (get_or bs i 0) ≡ true → limit ≤ n * 10 + (get_or bs i 0 - 48) → read_on limit n (drop i bs) ≡ None
+read_past limit n bs i h e over = read_digit limit n bs i h e ∙ too_large limit _ (drop (i + 1) bs) over
+
+pub read_all : (limit n : ℕ) (bs : List ℕ) (i : ℕ) → length bs ≤ i → n < limit → read_on limit n (drop i bs) ≡ Some n
+read_all limit n bs i h fits = at_drop_all (read_on limit n) bs i h ∙ cond-true (ltb n limit) _ _ (lt-ltb n limit fits)
 
 -- a smaller limit leaves a number that is below it, and no other
 module _ (least most : ℕ) where
@@ -55,12 +54,12 @@ module _ (least most : ℕ) where
   narrow_none [] h e = refl
   narrow_none (b ∷ bs) h e = grind (arith, nat_tests)
 
-  narrow_some : (bs : List ℕ) (n : ℕ) → n < least → number_below most bs ≡ Some n → number_below least bs ≡ Some n
+  pub narrow_some : (bs : List ℕ) (n : ℕ) → n < least → number_below most bs ≡ Some n → number_below least bs ≡ Some n
   unfolding number_below
   narrow_some [] n h e = e
   narrow_some (b ∷ bs) n h e = grind (arith, nat_tests)
 
-  narrow_over : (bs : List ℕ) (n : ℕ) → number_below most bs ≡ Some n → (n < least → ⊥) → number_below least bs ≡ None
+  pub narrow_over : (bs : List ℕ) (n : ℕ) → number_below most bs ≡ Some n → (n < least → ⊥) → number_below least bs ≡ None
   unfolding number_below
   narrow_over [] n e h = refl
   narrow_over (b ∷ bs) n e h = grind (arith, nat_tests)

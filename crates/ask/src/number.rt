@@ -1,25 +1,26 @@
 //! Numbers as words write them.
 
 ghost use Rattle.std.specs.Prelude.{◌≡◌, ◌^◌};
-ghost use Rattle.std.specs.Str.{all_ascii_digits};
 ghost use Rattle.ask.specs.Numbers.{number_below};
 
-// Whether all bytes of a word are digits.
-fn is_digits(word: &[u8]) -> bool
-    ensures { result ≡ all_ascii_digits word.now }
-{
-    word.iter().all(|byte| byte.is_ascii_digit())
-}
-
-// The number that a word of digits writes; absent when the word is empty, has another byte or does not fit.
-#[tactic(auto, using(crate::proofs::Decimals::reading))]
+// The number that a word of digits writes; absent when the word is empty, has another byte or does not fit. Digit by
+// digit, in one pass: the library parses a text, so that a word would be gone over three times.
 pub(crate) fn number(word: &[u8]) -> Option<usize>
     ensures { result ≡ number_below (2 ^ 64) word.now }
 {
-    if !is_digits(word) {
+    if word.is_empty() {
         return None;
     }
-    str::from_utf8(word).ok()?.parse().ok()
+    let mut value: usize = 0;
+    for byte in word {
+        if !byte.is_ascii_digit() {
+            return None;
+        }
+        value = value
+            .checked_mul(10)?
+            .checked_add(usize::from(*byte - b'0'))?;
+    }
+    Some(value)
 }
 
 // The same of a code.
