@@ -41,8 +41,11 @@ fn first_codes(codes: &[u32], most: usize) -> &[u32]
 fn agreeing_ahead(left: &[u32], right: &[u32]) -> usize
     ensures { result ≡ common left.now right.now }
 {
-    left.iter()
-        .zip(right)
+    // Cut to one length, so that each turn looks for one end.
+    let room = left.len().min(right.len());
+    left[..room]
+        .iter()
+        .zip(&right[..room])
         .take_while(|(one, other)| one == other)
         .count()
 }
@@ -51,9 +54,11 @@ fn agreeing_ahead(left: &[u32], right: &[u32]) -> usize
 fn agreeing_behind(left: &[u32], right: &[u32]) -> usize
     ensures { result ≡ common (reverse left.now) (reverse right.now) }
 {
-    left.iter()
+    let room = left.len().min(right.len());
+    left[left.len() - room..]
+        .iter()
         .rev()
-        .zip(right.iter().rev())
+        .zip(right[right.len() - room..].iter().rev())
         .take_while(|(one, other)| one == other)
         .count()
 }
