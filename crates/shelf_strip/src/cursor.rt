@@ -90,7 +90,9 @@ pub(crate) struct View<'a> {
 }
 
 impl View<'_> {
-    // The cursor, moved down into the part under its place; none for a leaf.
+    // The cursor, moved down into the part under its place; none for a leaf. The hint is for the step, which does little
+    // else: with a call left there, each answer goes through memory.
+    #[inline]
     #[tactic(auto, using(crate::proofs::CursorFacts::shape_read, crate::proofs::CursorFacts::row_there))]
     fn descend(self, cursor: Cursor) -> Option<Cursor>
         requires { Stands self.side (rows_on self.shelf.now) cursor }
