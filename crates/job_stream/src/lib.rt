@@ -34,6 +34,11 @@ fn read_job<R: Read + Drop>(heap: Global, input: R) -> io::Result<Vec<u8>>
     read_at_most(heap, input, MOST_READ)
 }
 
+// The words in which the library's `write_all` tells of these failures.
+const NOTHING_TAKEN: &str = "failed to write whole buffer";
+
+const TOO_MANY_CALLS: &str = "gave up reading or writing after 2^64 tries";
+
 // Writes a beginning of some bytes, and answers how many the output took: none where the call was interrupted. That an
 // output takes none of them is a failure.
 fn write_some<W: Write>(output: &mut W, bytes: &[u8]) -> io::Result<usize>
@@ -42,7 +47,7 @@ fn write_some<W: Write>(output: &mut W, bytes: &[u8]) -> io::Result<usize>
     ensures retried { IfErr result (λ error. error_kind error ≢ ErrorKind.Interrupted) }
 {
     match output.write(bytes) {
-        Ok(0) => Err(ErrorKind::WriteZero.into()),
+        Ok(0) => Err(io::Error::new(ErrorKind::WriteZero, NOTHING_TAKEN)),
         Err(error) if error.kind() == ErrorKind::Interrupted => Ok(0),
         outcome => outcome,
     }
@@ -64,7 +69,7 @@ fn write_whole<W: Write>(output: &mut W, bytes: &[u8]) -> io::Result<()>
         let count = write_some(output, rest)?;
         rest = &rest[count..];
     }
-    Err(ErrorKind::TimedOut.into())
+    Err(io::Error::new(ErrorKind::TimedOut, TOO_MANY_CALLS))
 }
 
 /// Runs the job that an input gives, and writes what it prints once it has ended. No more of the input is read than one
