@@ -1,5 +1,6 @@
 -- What the kind of days says of its cells and codes. Assumes nothing.
 use Rattle.std.specs.Prelude.{ℕ, min, ◌+◌, ◌*◌, ◌/◌, ◌%◌, Bool, cond, ◌&&◌, Some, None, Option, nat_le, nat_lt}
+use Rattle.cells.specs.Giving.{given_by}
 use Rattle.cells.specs.declared.day.Day.{Day}
 
 -- The blank has four zeros. It is not printable.
@@ -23,3 +24,7 @@ spelled_day n = record { day = min (n / 256 / 8) 255; weekday = n / 256 % 8; mar
 -- The codes of days are the numbers that spell a printable one.
 abbrev pub day_known : ℕ → Bool
 day_known n = day_printable (spelled_day n)
+
+-- The day given back for a code, and the blank for a number that is no code.
+abbrev pub day_given : ℕ → Day
+day_given = given_by day_known spelled_day blank_day
