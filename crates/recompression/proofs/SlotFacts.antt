@@ -1,6 +1,7 @@
 -- What slots hold after a row is put in or taken off, and how a row in use is read. Assumes nothing.
-use Rattle.std.proofs.Common.{◌≡◌, ℕ, ◌+◌, ◌-◌, ◌<◌, ◌≤◌, true, false, ◌&&◌, eqb, ltb, leb, ◌≢◌, List, [], ◌∷◌, ◌++◌, length, get_or, take, set, replicate, Some, None, sym, refl, ap, ◌∙◌, subst, inl, inr, min, arith, length-set, length-append}
-use Rattle.std.proofs.lemmas.List.{take_more_set, take_at, take_all, take-take, length-replicate, get_or-append_right, get_or_append_left, get_or-take, ext_get_or, length-take-le, get_or-set_other}
+use Rattle.std.proofs.Common.{◌≡◌, ℕ, ◌+◌, ◌-◌, ◌<◌, ◌≤◌, true, false, ◌&&◌, eqb, ltb, leb, ◌≢◌, List, [], ◌∷◌, ◌++◌, length, get_or, take, drop, set, replicate, Some, None, sym, refl, ap, ◌∙◌, subst, inl, inr, min, arith, length-set, length-append, length-take, length-drop}
+use Rattle.std.proofs.lemmas.List.{take_more_set, take_at, take_all, take-take, length-replicate, get_or-append_right, get_or_append_left, get_or-take, ext_get_or, length-take-le, get_or-set_other, get_or-drop, replicate-append-replicate}
+use borrow.Rule.Slice.PartMut.{mid_of, post_of, put_mid, Post-is}
 use Rattle.std.proofs.lemmas.Bool.{both_ways, cases_Bool, cases_lt, cond-true, cond-false, and_from, and_parts, eqb-true, lt-ltb, le-leb, ltb-true, leb-true}
 use Rattle.rows.specs.declared.Shape.{Shape}
 use Rattle.rows.specs.declared.Shape.TheVariants.{Leaf, Pair, Repeat}
@@ -103,6 +104,22 @@ is_blank row h =
     ap (λ s. row_of_fields s row.length row.round) (blank_shape row.shape both.0)
     ∙ ap (λ n. row_of_fields (Leaf 0) n row.round) (eqb-true row.length 0 both.1)
     ∙ ap (row_of_fields (Leaf 0) 0) (eqb-true row.round 0 all.1)
+
+-- where the slots from n on are blank, those from m on are once those between are made so
+pub blanks_joined : (rows : List Row) (m n : ℕ) → m ≤ n → ((k : ℕ) → n ≤ k → is_blank_row (get_or rows k blank_row) ≡ true)
+    → put_mid m (n - m) rows (replicate (length (mid_of m (n - m) rows)) blank_row) ≡ take m rows ++ replicate (length rows - m) blank_row
+blanks_joined rows m n less blank =
+    let after : drop n rows ≡ replicate (length rows - n) blank_row =
+    ext_get_or blank_row (drop n rows) (replicate (length rows - n) blank_row) (length-drop n rows ∙ sym (length-replicate (length rows - n) blank_row))
+    (λ k h. get_or-drop n rows k blank_row ∙ is_blank (get_or rows (n + k) blank_row) (blank (n + k) (omega arith)) ∙ sym (filled_at (length rows - n) k blank_row)) in
+    let all : length (mid_of m (n - m) rows) + (length rows - n) ≡ length rows - m = omega (arith, length-take (n - m) (drop m rows), length-drop m rows) in
+    ap (λ xs. take m rows ++ (replicate (length (mid_of m (n - m) rows)) blank_row ++ xs)) (Post-is m n rows less ∙ after)
+    ∙ ap (λ xs. take m rows ++ xs) (replicate-append-replicate (length (mid_of m (n - m) rows)) (length rows - n) blank_row ∙ ap (λ k. replicate k blank_row) all)
+
+-- so in slots of which those not in use are
+pub blank_on : (s : Slots) (m : ℕ) (ys : List Row) → Sound s → m ≤ s.count → ys ≡ replicate (length (mid_of m (s.count - m) s.rows)) blank_row
+    → take m s.rows ++ (ys ++ post_of m (s.count - m) s.rows) ≡ take m s.rows ++ replicate (length s.rows - m) blank_row
+blank_on s m ys sound less filled = ap (put_mid m (s.count - m) s.rows) filled ∙ blanks_joined s.rows m s.count less sound.blank
 
 -- the rows in use, and blank slots after them
 module _ (s : Slots) (sound : Sound s) where

@@ -2,7 +2,7 @@
 ghost use Rattle.std.specs.Prelude.{◌≡◌, ◌<◌, ◌≤◌, [], ◌∷◌, ◌++◌, take, replicate};
 ghost use Rattle.rows.specs.Filing.{blank_row, find};
 ghost use Rattle.recompression.specs.Buckets.{Distinct, IndexOf};
-ghost use Rattle.recompression.specs.Tables.{in_use, appended, truncated};
+ghost use Rattle.recompression.specs.Tables.{Sound, in_use, appended, truncated};
 
 use crate::index::Index;
 use rows::{BLANK, MAX_ROWS, Row, Shape};
@@ -67,15 +67,16 @@ impl Slots {
         self.index.find(self.in_use(), shape)
     }
 
-    // Makes the slots after the first `count` blank.
+    // Takes the rows after the first `count` out of use, and makes their slots blank, as those after them are.
+    #[tactic(auto, using(crate::proofs::SlotFacts::blank_on))]
     pub(crate) fn truncate(&mut self, count: usize)
-        requires few { self.old.count ≤ 1024 }
-        requires indexed { IndexOf (in_use self.old) self.old.index }
+        requires { Sound self.old }
         ensures slots { self.new ≡ truncated count self.old self.new.index }
         ensures indexed { IndexOf (take count (in_use self.old)) self.new.index }
     {
         self.index.truncate(&self.rows[..self.count], count);
-        self.count = self.count.min(count);
-        self.rows[self.count..].fill(BLANK);
+        let left = self.count.min(count);
+        self.rows[left..self.count].fill(BLANK);
+        self.count = left;
     }
 }
