@@ -1,9 +1,9 @@
 -- Parts of leaf strings written out one after the other: those of a leaf, of a pair by where its left part
 -- ends, and of a repeat copy by copy. Assumes nothing.
-use Rattle.std.proofs.Common.{◌≡◌, ℕ, zero, suc, ◌+◌, ◌-◌, ◌*◌, ◌%◌, ◌<◌, ◌≤◌, min, List, [], ◌∷◌, ◌++◌, length, take, drop, set, sym, refl, ap, Some, ◌∙◌, subst, inl, inr, mod-lt, mod-eq_of_lt, arith, length-append, length-drop}
+use Rattle.std.proofs.Common.{◌≡◌, ℕ, zero, suc, ◌+◌, ◌-◌, ◌*◌, ◌%◌, ◌<◌, ◌≤◌, min, List, [], ◌∷◌, ◌++◌, length, take, drop, set, replicate, sym, refl, ap, Some, ◌∙◌, subst, inl, inr, mod-lt, mod-eq_of_lt, arith, length-append, length-drop}
 use native.Mathlib.Nat.{mod-eq-sub-mod}
 use borrow.Rule.Slice.PartMut.{put_mid}
-use Rattle.std.proofs.lemmas.List.{append-nil, drop-append-le, drop-drop, nil_from_length, take_all, take-append-le, length-take-le}
+use Rattle.std.proofs.lemmas.List.{append-nil, drop-append-le, drop-drop, drop-replicate, take_all, take-replicate, take-append-le, length-take-le}
 use Rattle.std.proofs.lemmas.Slice.{take-put_mid}
 use Rattle.std.proofs.lemmas.Bool.{cases_lt}
 use Rattle.std.proofs.Math.Seq.{take-add, drop-append-add, take-append-add}
@@ -116,18 +116,27 @@ pub record Copied (rows : List Row) (n m start count filled : ℕ) (out : List �
   pub within : filled ≤ count
   pub done : take filled out ≡ copies_out rows n m start filled
 
--- what falls in the calls: a number that no place is asked of is not looked into
-abbrev pub calls_left : ℕ → ℕ → ℕ
-calls_left zero n = 0
-calls_left (suc count) n = 2 * n
+-- what falls in the calls: a number that no place is asked of is not looked into, and one copy is less than others
+abbrev pub calls_left : ℕ → ℕ → ℕ → ℕ
+calls_left zero n m = 0
+calls_left (suc count) n m = 2 * n + min 1 ((m - 1) + (1 - m))
 
-calls_left_le : (count n : ℕ) → calls_left count n ≤ 2 * n
-calls_left_le zero n = omega arith
-calls_left_le (suc count) n = omega arith
+calls_left_le : (count n m : ℕ) → calls_left count n m ≤ 2 * n + 1
+calls_left_le zero n m = omega arith
+calls_left_le (suc count) n m = omega arith
 
-pub calls_left_some : (count n : ℕ) → 0 < count → calls_left count n ≡ 2 * n
-calls_left_some zero n more = absurd (omega arith)
-calls_left_some (suc count) n more = refl
+pub calls_left_some : (count n m : ℕ) → 0 < count → calls_left count n m ≡ 2 * n + min 1 ((m - 1) + (1 - m))
+calls_left_some zero n m more = absurd (omega arith)
+calls_left_some (suc count) n m more = refl
+
+-- of one copy as of the strip itself
+pub one_copy : (rows : List Row) (n start count : ℕ) → copies_out rows n 1 start count ≡ written_out rows n start count
+one_copy rows n start count = ap (λ xs. take count (drop start xs)) (append-nil (leaf_string rows n))
+
+-- copies of a list of one
+times_one : (m n : ℕ) → times m (n ∷ []) ≡ replicate m n
+times_one zero n = refl
+times_one (suc m) n = ap (λ xs. n ∷ xs) (times_one m n)
 
 -- copies of a number's strip are as long as a row that repeats it
 copies_long : (rows : List Row) → LengthsKept rows → (n m : ℕ) → shape_length rows (Repeat n m) ≡ min 65535 (m * length (leaf_string rows n))
@@ -140,7 +149,7 @@ part_asked rows kept n part from size fits = elim (cases_lt 0 (part_length rows 
   | inr none ↦ omega arith
 ]
 
-part_falls : (rows : List Row) → LengthsKept rows → (n part from size : ℕ) → 0 < n → size ≤ part_length rows n part - from → calls_left size part < 2 * n - 1
+part_falls : (rows : List Row) → LengthsKept rows → (n part from size : ℕ) → 0 < n → size ≤ part_length rows n part - from → calls_left size part 1 < 2 * n - 1
 part_falls rows kept n part from zero some fits = omega arith
 part_falls rows kept n part from (suc size) some fits = let known = part_known rows n part (omega arith) in omega (arith, known.0)
 
@@ -159,6 +168,23 @@ copies_some rows n m start count fits more = elim (cases_lt 0 (row_of rows n).le
       absurd (omega arith)
 ]
 
+-- a list of one, written over
+pub set_alone : (xs : List ℕ) (n : ℕ) → length xs ≡ 1 → set xs 0 n ≡ replicate (length xs) n
+set_alone [] n one = absurd (omega arith)
+set_alone (x ∷ []) n one = refl
+set_alone (x ∷ y ∷ xs) n one = absurd (omega arith)
+
+-- a leaf is its own number, in each copy
+pub leaf_out : (rows : List Row) → LengthsKept rows → (n m start count : ℕ) {row : Row} {code : ℕ} → row_at rows n ≡ Some row → row.shape ≡ Leaf code
+    → count ≤ shape_length rows (Repeat n m) - start → replicate count n ≡ copies_out rows n m start count
+leaf_out rows kept n m start count found same fits =
+    let known = row_of_some rows n _ found in
+    let string : leaf_string rows n ≡ n ∷ [] = leaf_string_of_row rows n known.0 known.1 ∙ ap (shape_leaves rows n) (ap (λ r. r.shape) known.2 ∙ same) in
+    let enough : count ≤ m - start = omega (arith, copies_long rows kept n m, ap (λ xs. m * length xs) string) in
+    sym
+    (ap (λ xs. take count (drop start (times m xs))) string ∙ ap (λ xs. take count (drop start xs)) (times_one m n)
+    ∙ ap (take count) (drop-replicate start m n) ∙ take-replicate count (m - start) n enough)
+
 module _ {rows : List Row} {n start : ℕ} (kept : LengthsKept rows) where
   -- the leaf string of a row that is asked for
   module _ {shape : Shape} {count : ℕ} (asked : Asked rows n shape start count) where
@@ -170,17 +196,6 @@ module _ {rows : List Row} {n start : ℕ} (kept : LengthsKept rows) where
 
     few : start + count ≤ 65535
     few = omega (arith, kept_is, asked.within)
-
-  -- a leaf is its own number
-  pub leaf_out : {code : ℕ} (out : List ℕ) → Asked rows n (Leaf code) start (length out) → 0 < length out → set out 0 n ≡ written_out rows n start (length out)
-  leaf_out [] asked more = absurd (omega arith)
-  leaf_out (x ∷ out) asked more =
-      let string = string_is asked in
-      let one = kept_is asked in
-      let first : start ≡ 0 = omega (arith, asked.within) in
-      let alone : length out ≡ 0 = omega (arith, asked.within) in
-      ap (λ xs. n ∷ xs) (nil_from_length out alone)
-      ∙ sym (ap (λ m. written_out rows n start (suc m)) alone ∙ ap (λ i. written_out rows n i 1) first ∙ ap (take 1) string)
 
   module _ {left right count : ℕ} (asked : Asked rows n (Pair left right) start count) (split : ℕ) (at : split ≡ min (part_length rows n left - start) count) where
     left_fits : split ≤ part_length rows n left - start
@@ -194,7 +209,7 @@ module _ {rows : List Row} {n start : ℕ} (kept : LengthsKept rows) where
         let both = length-append (part_string rows n left) (part_string rows n right) in
         omega (arith, asked.within)
 
-    pub right_asked : (count - split ≤ shape_length rows (Repeat right 1) - (start - part_length rows n left)) × (calls_left (count - split) right < 2 * n - 1)
+    pub right_asked : (count - split ≤ shape_length rows (Repeat right 1) - (start - part_length rows n left)) × (calls_left (count - split) right 1 < 2 * n - 1)
     right_asked =
         let from = start - part_length rows n left in
         (part_asked rows kept n right from (count - split) right_fits, part_falls rows kept n right from (count - split) asked.some right_fits)
@@ -226,32 +241,31 @@ module _ {rows : List Row} {n start : ℕ} (kept : LengthsKept rows) where
         let same = ap (λ xs. min 65535 (m * length xs)) repeat_part.1 in
         omega (arith, repeat_long, same, copies_long rows kept part m, asked.within)
 
-    pub repeat_falls : calls_left count part < 2 * n
-    repeat_falls = let below = calls_left_le count part in omega (arith, repeat_part.0)
+    pub repeat_falls : calls_left count part m < 2 * n
+    repeat_falls = let below = calls_left_le count part m in omega (arith, repeat_part.0)
 
     pub repeat_out : copies_out rows part m start count ≡ written_out rows n start count
     repeat_out = ap (λ xs. take count (drop start xs)) (sym (string_is asked ∙ ap (times m) repeat_part.1))
 
+  module _ {row : Row} (found : row_at rows n ≡ Some row) {m count : ℕ} (fits : count ≤ shape_length rows (Repeat n m) - start) where
+    -- of one copy, its row is asked
+    pub one_asked : {shape : Shape} → row.shape ≡ shape → m ≡ 1 → 0 < count → Asked rows n shape start count
+    one_asked same one more =
+        let known = row_of_some rows n row found in
+        let whole : (row_of rows n).length * m ≡ (row_of rows n).length * 1 = ap (λ k. (row_of rows n).length * k) one in
+        record { is = ap (λ r. r.shape) known.2 ∙ same; some = known.0; known = known.1; within = omega arith }
+
   -- of copies, what is asked for in the one that is next
   module _ {row : Row} (found : row_at rows n ≡ Some row) {m count limit : ℕ} (fits : count ≤ shape_length rows (Repeat n m) - start) (long : limit ≡ row.length) {filled : ℕ} (out : List ℕ)
       (g : Copied rows n m start count filled out) (less : filled < length out) {place end : ℕ} (there : place ≡ (start + filled) % limit) (at : end ≡ min (length out) (filled + (limit - place))) where
-    known : (0 < n) × (n ≤ length rows) × (row_of rows n ≡ row)
-    known = row_of_some rows n row found
-
     is : limit ≡ (row_of rows n).length
-    is = long ∙ sym (ap (λ r. r.length) known.2)
+    is = long ∙ sym (ap (λ r. r.length) (row_of_some rows n row found).2)
 
     low : place < limit
     low = let l = mod-lt (start + filled) (subst (λ l. 0 < l) (sym is) (copies_some rows n m start count fits (omega (arith, g.long)))) in omega arith
 
     size : length (take (end - filled) (drop filled out)) ≡ end - filled
     size = length_part out filled end (omega (arith, g.long))
-
-    pub copy_asked : {shape : Shape} → row.shape ≡ shape → Asked rows n shape place (length (take (end - filled) (drop filled out)))
-    copy_asked same = record { is = ap (λ r. r.shape) known.2 ∙ same; some = known.0; known = known.1; within = omega (arith, low, size, is) }
-
-    pub copy_some : 0 < length (take (end - filled) (drop filled out))
-    copy_some = omega (arith, low, size)
 
     pub copied_more : (ys : List ℕ) → ys ≡ written_out rows n place (length (take (end - filled) (drop filled out))) → length ys ≡ length (take (end - filled) (drop filled out))
         → Copied rows n m start count end (put_mid filled (end - filled) out ys)

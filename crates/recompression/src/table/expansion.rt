@@ -60,28 +60,40 @@ impl Table {
         self.expand_repeat(right, 1, start.saturating_sub(left_length), back);
     }
 
-    // The copies of a number's strip, one after the other, the first of them from where the start lies in it. A part
-    // that any place is asked of lies below its row, so that the calls come to leaves.
+    // The copies of a number's strip, one after the other, the first of them from where the start lies in it. A leaf is
+    // its own number in each of them, and of one copy the places are those of the strip. A part that any place is asked
+    // of lies below its row, so that the calls come to leaves.
     #[cycle(expand_pair_expand_repeat)]
-    fn expand_repeat(&self, number: u16, times: u16, start: usize, out: &mut [u16])
-        requires { length out.old ≤ shape_length (rows_in self.now) (Repeat number times) - start }
-        ensures { out.new ≡ copies_out (rows_in self.now) number times start (length out.old) }
+    fn expand_repeat(&self, number: u16, copies: u16, start: usize, out: &mut [u16])
+        requires { length out.old ≤ shape_length (rows_in self.now) (Repeat number copies) - start }
+        ensures { out.new ≡ copies_out (rows_in self.now) number copies start (length out.old) }
     {
+        if out.is_empty() {
+            return;
+        }
         let Some(row) = self.row(number) else {
             return;
         };
-        let copy_length = usize::from(row.length);
-        let mut filled = 0;
-        while filled < out.len() {
-            let place = place_in_copy(start + filled, copy_length);
-            let end = out.len().min(filled + (copy_length - place));
-            let copy = &mut out[filled..end];
-            match row.shape {
-                Shape::Leaf { .. } => copy[0] = number,
-                Shape::Pair { left, right } => self.expand_pair(number, left, right, place, copy),
-                Shape::Repeat { part, times } => self.expand_repeat(part, times, place, copy),
+        match row.shape {
+            // One place, as most are asked for, needs no loop.
+            Shape::Leaf { .. } if out.len() == 1 => out[0] = number,
+            Shape::Leaf { .. } => out.fill(number),
+            Shape::Pair { left, right } if copies == 1 => {
+                self.expand_pair(number, left, right, start, out)
             }
-            filled = end;
+            Shape::Repeat { part, times } if copies == 1 => {
+                self.expand_repeat(part, times, start, out)
+            }
+            _ => {
+                let copy_length = usize::from(row.length);
+                let mut filled = 0;
+                while filled < out.len() {
+                    let place = place_in_copy(start + filled, copy_length);
+                    let end = out.len().min(filled + (copy_length - place));
+                    self.expand_repeat(number, 1, place, &mut out[filled..end]);
+                    filled = end;
+                }
+            }
         }
     }
 }

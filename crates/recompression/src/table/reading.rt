@@ -38,7 +38,8 @@ impl Table {
     pub fn row(&self, number: u16) -> Option<Row>
         ensures { result ≡ row_at (rows_in self.now) number }
     {
-        let index = usize::from(number).checked_sub(1)?;
+        // Number 0 wraps round to an index past all rows.
+        let index = usize::from(number).wrapping_sub(1);
         self.slots.in_use().get(index).copied()
     }
 
