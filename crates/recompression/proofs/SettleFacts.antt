@@ -24,6 +24,7 @@ even_blocks k s even = sym (cond-false (eqb (k % 2) 1) (stretches s) (pairs k s)
 -- after k rounds, the string is in the first `size` numbers, and the rounds that are left come to the same
 pub record Running (first : List Row) (old : List ℕ) (most k size : ℕ) (rows : List Row) (numbers : List ℕ) : Type 0 where
   pub few : size ≤ length old
+  pub spent : k ≤ most
   pub long : length numbers ≡ length old
   pub rest : all_rounds first old ≡ rounds_from (most - k) k (record { numbers = take size numbers; rows = rows })
   pub begins : take (length first) rows ≡ first
@@ -46,6 +47,7 @@ module _ {first : List Row} {old : List ℕ} {most k size : ℕ} {rows : List Ro
         let all = file_all_grows (k + 1) (blocks (k + 1) (take size numbers)) rows (record { numbers = take m part; rows = grown }) there.1 in
         subst (λ j. Running first old most j m grown (part ++ drop size numbers)) (sym after) (record {
           few = omega (arith, there.0, g.few);
+          spent = omega arith;
           long = simp (length-append, length-drop) (omega (arith, g.few, g.long));
           rest =
               next_round two more ∙ ap (λ o. then o (rounds_from (most - (k + 1)) (k + 1))) there.1
