@@ -136,6 +136,9 @@ fn an_output_that_takes_no_byte_fails(rt: HostRuntime) -> Result<(), Fail> {
     let mut space = [0u8; 6];
     let mut output = space.as_mut_slice();
     let outcome = run_through(rt.alloc(), b"TT".as_slice(), &mut output);
+    assert!(rt;
+        matches!(&outcome, Err(Failure::Write(error)) if error.kind() == ErrorKind::WriteZero)
+    );
     let said = match outcome {
         Ok(()) => String::new(rt.alloc()),
         Err(failure) => format!(in rt.alloc(); "{failure}")?,
