@@ -28,6 +28,25 @@ pub comes_shorter : (rows : List Row) (j : ℕ) (s t : List ℕ) → Comes rows 
 comes_shorter rows zero s t c = omega (arith, ap length c)
 comes_shorter rows (suc j) s t c = omega (arith, comes_shorter rows j s c.0 c.1, round_shorter rows (suc j) c.0 t c.2)
 
+-- rounds that were run are such rounds
+pub rounds_come : (most k : ℕ) (f : Filed) (s : Settled) (start : List ℕ) → rounds_from most k f ≡ Some s → Comes f.rows k start f.numbers → Comes s.rows s.rounds start s.numbers
+unfolding rounds_from
+rounds_come zero k f s start h so_far = let e : settled f k ≡ s = cc in subst (λ g. Comes g.rows g.rounds start g.numbers) e so_far
+rounds_come (suc most) k f s start h so_far =
+    elim (rounds_step most k f s h) [
+      | inl stopped ↦ subst (λ g. Comes g.rows g.rounds start g.numbers) stopped.1 so_far
+      | inr on ↦
+          let g = on.1 in
+          let this = file_all_grows (k + 1) (blocks (k + 1) f.numbers) f.rows g on.2 in
+          let grown = subst (λ rs. Comes rs k start f.numbers) (sym this.grows) (comes_append f.rows this.added k start f.numbers so_far) in
+          rounds_come most (k + 1) g s start on.3 (one_more k f.numbers g grown this.names)
+    ]
+  where
+    one_more : (j : ℕ) (u : List ℕ) (g : Filed) → Comes g.rows j start u → Named g.rows (blocks (j + 1) u) g.numbers → Comes g.rows (j + 1) start g.numbers
+    one_more j u g before named =
+        let e : suc j ≡ j + 1 = omega arith in
+        subst (λ i. Comes g.rows i start g.numbers) e (u, before, subst (λ i. Named g.rows (blocks i u) g.numbers) (sym e) named)
+
 -- such rounds are run on the leaves of a strip, on rows that have them
 pub comes_after : (rows : List Row) (j : ℕ) (codes s t : List ℕ) → Named rows (map leaf_block codes) s → Comes rows j s t → after_rounds j rows codes ≡ Some (record { numbers = t; rows = rows })
 comes_after rows zero codes s t names c = after_none rows codes ∙ file_named 0 (map leaf_block codes) rows s names ∙ ap (λ u. Some (record { numbers = u; rows = rows })) c
