@@ -114,7 +114,12 @@ impl<'a, K: Keeper> Part<'a, K> {
         requires range { range < 16 }
         ensures { result ≡ progression_of (periods_in (cut (K.codes self.now.keeper.now) self.now.fragment) range) }
     {
-        let borders = self.ends().overlaps_from(1 << range)?;
+        // A border is shorter than its fragment: a short one has none in most of the ranges.
+        let least = 1 << range;
+        if least >= self.fragment.length {
+            return None;
+        }
+        let borders = self.ends().overlaps_from(least)?;
         Some(borders_record(self.fragment.length, borders))
     }
 
